@@ -10,7 +10,7 @@ const ROOTS: [&str; 4] = ["demands", "vigbuso", "witness", "mediumlist"];
 /// They list modules, and define nothing.
 const LISTS: [&str; 2] = ["Lib.antt", "way.antt"];
 
-/// A crate, and a module below its specs/: `Word`, or `way.Asks`.
+/// A crate, and a module below its specs/: `Word`, or `way.Pre`.
 type Module = (String, String);
 
 fn main() {

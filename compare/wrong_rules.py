@@ -39,7 +39,7 @@ HOLES = "crates/model/specs/HoleStore.antt"
 OURS = "compare/seams/arena.rs"
 PAGE = "crates/model/specs/Page.antt"
 RELEASE = "crates/model/specs/Release.antt"
-SPOT = "crates/model/specs/Spot.antt"
+DESTINATION = "crates/model/specs/Destination.antt"
 LEDGER = "compare/src/ledger.rs"
 LIMITS = "crates/words/specs/Limits.antt"
 WORD = "crates/words/specs/Word.antt"
@@ -156,7 +156,7 @@ RULES = [
             ("heap.rs", at(8, "SpanFate::Keep => {}"), at(8, "SpanFate::Keep | SpanFate::Cold => {}")),
             ("compare/seams/parts.rs", "SpanFate::Keep => 0,", "SpanFate::Keep => 0,\\n        SpanFate::Cold => 1,"),
         ],
-        model=[(SPOT, "fateOf sh ToCold = cond (isMedium sh) keptFate 1", "fateOf sh ToCold = 1")],
+        model=[(DESTINATION, "fateOf sh ToCold = cond (isMedium sh) keptFate 1", "fateOf sh ToCold = 1")],
     ),
     Rule(
         "virgin goes by the first page only",

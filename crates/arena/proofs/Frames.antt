@@ -17,7 +17,7 @@ use Rattle.model.specs.Arena.{Arena}
 use Rattle.arena.specs.Load.{loadHole, loadHoles}
 use Rattle.arena.specs.Store.{storeHole, storeHoles, storeCounts, storeTop, storeArena}
 use Rattle.arena.specs.Owners.{own}
-use Rattle.arena.specs.Fair.{recordFair, holesEndFair, giveFair}
+use Rattle.arena.specs.Valid.{recordValid, holesEndValid, giveValid}
 
 -- as many holes are loaded as are asked for
 pub loaded-length : (b : List ℕ) (i k : ℕ) → length (loadHoles b i k) ≡ k
@@ -93,18 +93,18 @@ module _ (n : ℕ) where
 
 -- number 13's test of a give, on a book with the same words
 module _ (n : ℕ) (b b′ : List ℕ) (k : (f : ArenaField) → get b′ (arena f) ≡ get b (arena f)) where
-  record-kept : recordFair n b′ ≡ recordFair n b
-  unfolding recordFair
+  record-kept : recordValid n b′ ≡ recordValid n b
+  unfolding recordValid
   record-kept = rw (k state, k frontier, k holes, k holePages, k held)
 
-  few-holes : recordFair n b ≡ true → get b (arena holes) ≤ holeSlots
-  unfolding recordFair
+  few-holes : recordValid n b ≡ true → get b (arena holes) ≤ holeSlots
+  unfolding recordValid
   few-holes e = leb-true _ holeSlots (and-left _ _ (and-right (leb (get b (arena frontier)) n) _ (and-right (leb (get b (arena state)) 2) _ e)))
 
-  pub give-kept : ((f : HoleField) (j : ℕ) → ltb j holeSlots ≡ true → get b′ (hole f j) ≡ get b (hole f j)) → (m : ℕ) → giveFair n b′ m ≡ giveFair n b m
-  unfolding giveFair holesEndFair
+  pub give-kept : ((f : HoleField) (j : ℕ) → ltb j holeSlots ≡ true → get b′ (hole f j) ≡ get b (hole f j)) → (m : ℕ) → giveValid n b′ m ≡ giveValid n b m
+  unfolding giveValid holesEndValid
   give-kept h m =
-      by-cases (recordFair n b)
+      by-cases (recordValid n b)
       (λ t. rw (record-kept, t, k held, k frontier, k holes, holes-same b b′ 0 (get b (arena holes)) (let z = few-holes t in omega arith) (λ f j o l. h f j o)))
       (λ t. rw (record-kept, t))
 

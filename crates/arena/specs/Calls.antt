@@ -15,7 +15,7 @@ use Rattle.model.specs.Arena as Model
 use Rattle.model.specs.Arena.{Arena, Status, unasked, ready, disabled, Given, Grown}
 use Rattle.arena.specs.Load.{loadArena}
 use Rattle.arena.specs.Store.{storeHoles, storeArena}
-use Rattle.arena.specs.Fair.{commitFair, giveFair, growFair, reportFair}
+use Rattle.arena.specs.Valid.{commitValid, giveValid, growValid, reportValid}
 use Rattle.arena.specs.Owners.{ownerCode, own, ownFresh, ownRun, heldWith}
 
 -- ---- steps, for the direct calls and for the classes above
@@ -68,7 +68,7 @@ commitRefused b k = record { code = k; book = b; run = none; fresh = false }
 unfoldable pub commitFor : ℕ → List ℕ → ℕ → ℕ → ℕ → Committed
 commitFor n b h m w =
     let g = Model.commit n h m (loadArena b) in
-    cond (commitFair n b) (record { code = 0; book = commitBook n b h m (loadArena b) w; run = g .run; fresh = g .fresh }) (commitRefused b 13)
+    cond (commitValid n b) (record { code = 0; book = commitBook n b h m (loadArena b) w; run = g .run; fresh = g .fresh }) (commitRefused b 13)
 
 -- m pages from q on go to the holes, or are abandoned, and are nobody's
 unfoldable pub given : List ℕ → ℕ → ℕ → List ℕ
@@ -109,14 +109,14 @@ growCall n b h q old new =
     let g = Model.grow n h (q + old) (new - old) (loadArena b) in
     cond (badGrowth old new) (doneRefused b 6)
     (cond (not (heldDirect n b q old)) (doneRefused b 12)
-    (cond (not (growFair n b h (q + old) (new - old))) (doneRefused b 13)
+    (cond (not (growValid n b h (q + old) (new - old))) (doneRefused b 13)
     (record { code = 0; book = growBook n b h (q + old) (new - old) (loadArena b); yes = g .grew })))
 
 unfoldable pub releaseCall : ℕ → List ℕ → ℕ → ℕ → Done
 releaseCall n b q m =
     cond (badRun m) (doneRefused b 6)
     (cond (not (heldDirect n b q m)) (doneRefused b 12)
-    (cond (not (giveFair n b m)) (doneRefused b 13)
+    (cond (not (giveValid n b m)) (doneRefused b 13)
     (record { code = 0; book = given b q m; yes = true })))
 
 unfoldable pub containsCall : ℕ → List ℕ → ℕ → ℕ → Bool
@@ -130,4 +130,4 @@ abbrev pub figures : ℕ → List ℕ → Figures
 figures n b = figuresWith n (loadArena b) (get b (arena held)) (parkedPages (parkedRuns b))
 
 unfoldable pub reportCode : ℕ → List ℕ → ℕ
-reportCode n b = cond (reportFair n b) 0 13
+reportCode n b = cond (reportValid n b) 0 13

@@ -1,6 +1,6 @@
 pub mod Load
 pub mod Store
-pub mod Fair
+pub mod Valid
 pub mod Owners
 pub mod Calls
 pub mod Open

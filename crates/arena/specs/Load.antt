@@ -1,4 +1,4 @@
--- The arena that the words hold. Any words hold one; number 13's tests (Fair) say which of them a step may use.
+-- The arena that the words hold. Any words hold one; number 13's tests (Valid) say which of them a step may use.
 use Prim.Native.Nat.{ℕ, zero, suc}
 use mathlib.Core.List.{List, [], _∷_}
 use Rattle.fields.specs.Field.{arena, hole, state, frontier, holes, holePages, commits, commitsHigh, reuses, reusesHigh, abandoned, abandonedHigh, start, pages, get}

@@ -10,18 +10,18 @@ use Rattle.words.specs.Word.{chunkKind, countOf, pageOf}
 use Rattle.classes.specs.declared.Shape.{Shape}
 use Rattle.rules.specs.declared.Limits.{Limits}
 use Rattle.fields.specs.Field.{arena, class, page, frontier, free, carved, get}
-use Rattle.model.specs.Spot.{spotOf, isEmpty, isCold, isArena, arenaFate, retired}
+use Rattle.model.specs.Destination.{destinationOf, isEmpty, isCold, isArena, arenaFate, retired}
 use Rattle.model.specs.Release.{ofKind}
 use Rattle.model.specs.Chunks.{chunksMax}
-use Rattle.arena.specs.Fair.{giveFair}
+use Rattle.arena.specs.Valid.{giveValid}
 use Rattle.arena.specs.Calls as Arena
 use Rattle.words.specs.Host.{digit}
 use Rattle.pages.specs.declared.Park.the-variants.{Empty, Cold}
 use Rattle.pages.specs.Links.{stored}
-use Rattle.pages.specs.Fair.{limitsAt}
+use Rattle.pages.specs.Valid.{limitsAt}
 use Rattle.pages.specs.Stack.{back, indexOf}
 use Rattle.calls.specs.Out.{startOf, OutTest, outFault}
-use Rattle.calls.specs.Release.{pageFair, rowFair, Released, placed}
+use Rattle.calls.specs.Release.{pageValid, rowValid, Released, placed}
 
 -- a chunk's blocks: those of the list on its page, in the list's order
 unfoldable pub blocksOn : List ℕ → List ℕ → ℕ → List ℕ
@@ -43,18 +43,18 @@ returnsAll b g = eqb (get b (page free (pageOf g)) + countOf g) (get b (page car
 unfoldable pub runsGiven : List ℕ → Shape → Limits → List ℕ → ℕ → ℕ → ℕ
 runsGiven b sh lim [] e k = 0
 runsGiven b sh lim (g ∷ gs) e k =
-    let s = spotOf sh lim e k in
+    let s = destinationOf sh lim e k in
     cond (returnsAll b g) (digit (isArena s) + runsGiven b sh lim gs (e + digit (isEmpty s)) (k + digit (isCold s))) (runsGiven b sh lim gs e k)
 
 abbrev pub pagesGiven : List ℕ → ℕ → Shape → List ℕ → ℕ
 pagesGiven b c sh gs = runsGiven b sh (limitsAt b c) gs (get b (class (stored Empty) c)) (get b (class (stored Cold) c)) * sh .pages
 
-unfoldable pub chunksFair : ℕ → List ℕ → ℕ → Shape → List ℕ → Bool
-chunksFair n b c sh gs =
+unfoldable pub chunksValid : ℕ → List ℕ → ℕ → Shape → List ℕ → Bool
+chunksValid n b c sh gs =
     leb (get b (arena frontier)) n
-    && (every (λ g. pageFair b sh (countOf g) (pageOf g)) gs
-    && (rowFair b c
-    && cond (eqb (pagesGiven b c sh gs) 0) true (giveFair n b (pagesGiven b c sh gs))))
+    && (every (λ g. pageValid b sh (countOf g) (pageOf g)) gs
+    && (rowValid b c
+    && cond (eqb (pagesGiven b c sh gs) 0) true (giveValid n b (pagesGiven b c sh gs))))
 
 -- ---- the act
 -- one chunk: blocks is come back to page q, which is retired if none is out then
@@ -97,7 +97,7 @@ releaseChunksBy fault n b c sh h ws gs fs =
     (cond (not (every (ofKind (sh .kind)) ws && every (ofKind chunkKind) gs)) (chunksNone b fs 9)
     (cond (not (eqb (fault n b c sh ws) 0)) (chunksNone b fs (fault n b c sh ws))
     (cond (not (chunksMatch b ws gs)) (chunksNone b fs 11)
-    (cond (not (chunksFair n b c sh gs)) (chunksNone b fs 13)
+    (cond (not (chunksValid n b c sh gs)) (chunksNone b fs 13)
     (let s = settleChunks b c sh h ws gs in
     record { code = 0; book = giveRuns (s .book) (sh .pages) (s .gives); fates = s .fates ++ drop (length gs) fs }))))))
 

@@ -17,9 +17,9 @@ use Rattle.fields.specs.Field.{arena, class, page, frontier, partial, empty, co
 use Rattle.model.specs.Page.{wordOf}
 use Rattle.arena.specs.Calls.{commitFor}
 use Rattle.pages.specs.Runs.{whole}
-use Rattle.pages.specs.Stack.{tops, latest, draw, hasMore}
-use Rattle.pages.specs.Links.{link, unlink, top, stored, wake}
-use Rattle.pages.specs.Fair.{headerFair, storeFair}
+use Rattle.pages.specs.Stack.{topEntries, latest, draw, hasMore}
+use Rattle.pages.specs.Links.{link, unlink, top, stored, unparkRun}
+use Rattle.pages.specs.Valid.{headerValid, storeValid}
 use Rattle.pages.specs.declared.Park.{Park}
 use Rattle.pages.specs.declared.Park.the-variants.{Empty, Cold}
 use Rattle.pages.specs.Carve.{newRun}
@@ -38,12 +38,12 @@ tookNone b l k = record { code = k; book = b; count = 0; list = l; virgin = fals
 -- ---- the plan
 -- the page's own words are in their ranges, LISTED is l, and the page gives a block
 unfoldable pub pageReady : List ℕ → Shape → ℕ → ℕ → Bool
-pageReady b sh l q = headerFair b sh 0 q && (eqb (get b (page listed q)) l && hasMore b sh q)
+pageReady b sh l q = headerValid b sh 0 q && (eqb (get b (page listed q)) l && hasMore b sh q)
 
 unfoldable pub sound : ℕ → List ℕ → ℕ → Shape → ℕ → ℕ → ℕ → Bool
 sound n b c sh l m q =
     whole n b sh c q
-    && (pageReady b sh l q && every (λ i. ltb i (get b (page carved q))) (tops b q m (get b (page free q))))
+    && (pageReady b sh l q && every (λ i. ltb i (get b (page carved q))) (topEntries b q m (get b (page free q))))
 
 -- at most k pages, m blocks still wanted, from a code on; y is the code of the page before, so that no page is met twice
 unfoldable pub walk : ℕ → List ℕ → ℕ → Shape → ℕ → ℕ → ℕ → ℕ → Bool
@@ -54,10 +54,10 @@ walk n b c sh (suc k) m code y =
     && cond (eqb m 0 || eqb code 0) true
     (eqb (get b (page prev q)) y && (sound n b c sh 1 m q && walk n b c sh k (m - length (latest b sh q m)) (get b (page next q)) code))
 
-unfoldable pub parkFair : ℕ → List ℕ → ℕ → Shape → Park → Bool
-parkFair n b c sh k =
+unfoldable pub parkValid : ℕ → List ℕ → ℕ → Shape → Park → Bool
+parkValid n b c sh k =
     let q = get b (class (top k) c) - 1 in
-    storeFair b c k
+    storeValid b c k
     && (not (eqb (get b (class (stored k) c)) 0)
     && (sound n b c sh 0 (sh .batch) q && leb (get b (page next q)) (get b (arena frontier))))
 
@@ -97,7 +97,7 @@ unfoldable pub fromPartial : ℕ → List ℕ → ℕ → Shape → List ℕ →
 fromPartial n b c sh l = cond (walk n b c sh (sh .batch) (sh .batch) (get b (class partial c)) 0) (filled b c sh l) (tookNone b l 13)
 
 unfoldable pub fromPark : ℕ → List ℕ → ℕ → Shape → Park → List ℕ → Took
-fromPark n b c sh k l = cond (parkFair n b c sh k) (filled (wake b c k (get b (class (top k) c) - 1)) c sh l) (tookNone b l 13)
+fromPark n b c sh k l = cond (parkValid n b c sh k) (filled (unparkRun b c k (get b (class (top k) c) - 1)) c sh l) (tookNone b l 13)
 
 -- a new run, with what the commit answered
 unfoldable pub onRun : List ℕ → ℕ → Shape → List ℕ → Option ℕ → Took

@@ -1,6 +1,6 @@
 -- The passes of a group release, once its listed blocks are taken.
---     fair-asks, settle-asks                what each pass asks follows from the tests before it
---     mismatch, unfair, taken               numbers 11 and 13, and the taking
+--     valid-pre, settle-pre                  what each pass asks follows from the tests before it
+--     mismatch, invalid, taken               numbers 11 and 13, and the taking
 use Prim.Native.Nat.{ℕ, _+_, _≤_, _<_}
 use native.Mathlib.Omega.{arith}
 use mathlib.Core.Bool.{Bool, true, false, cond, _&&_, _||_}
@@ -16,40 +16,40 @@ use Rattle.words.specs.Word.{countOf, pageOf}
 use Rattle.classes.specs.declared.Shape.{Shape}
 use Rattle.fields.specs.Field.{Field, arena, class, page, slot, out, region, off, frontier, partial, empty, emptyCount, cold, coldCount, next, prev, free, carved, listed, get, put, words, hole, ok, emptyLimit, coldLimit}
 use Rattle.fields.proofs.Changes.{Changes, changes-none, changes-put}
-use Rattle.arena.specs.Fair.{giveFair}
+use Rattle.arena.specs.Valid.{giveValid}
 use Rattle.pages.specs.Stack.{indexOf, isBlock, pageAt}
 use Rattle.calls.specs.Out.{inRunOf, outAt}
 use Rattle.arena.proofs.Frames.{give-kept}
-use Rattle.calls.specs.Release.{pageFair, rowFair}
-use Rattle.calls.specs.Chunks.{chunkFits, chunksMatch, returnsAll, runsGiven, pagesGiven, chunksFair, giveRuns}
-use Rattle.pages.specs.Fair.{linksFair, limitsAt}
+use Rattle.calls.specs.Release.{pageValid, rowValid}
+use Rattle.calls.specs.Chunks.{chunkFits, chunksMatch, returnsAll, runsGiven, pagesGiven, chunksValid, giveRuns}
+use Rattle.pages.specs.Valid.{linksValid, limitsAt}
 use Rattle.release.proofs.Bits.{isBit, in-run-kept}
-use Rattle.release.proofs.FairSteps.{links-fair}
+use Rattle.release.proofs.ValidSteps.{links-valid}
 use Rattle.release.proofs.OutLaws.{run-of-out, block-of-out, index-of-out, page-of-out}
 use Rattle.chunks.specs.way.Match.{wordsOn, Matched}
 use Rattle.chunks.proofs.MatchLaws.{arena-is}
 use Rattle.chunks.specs.way.Pass.{cleared, pushOne, pushAll, givesIn}
-use Rattle.chunks.specs.way.PushAsks.{ownBlock, PushAllAsks}
-use Rattle.chunks.specs.way.FairAsks.{ChunksFairAsks}
-use Rattle.chunks.specs.way.PlaceAsks.{placeFair, PlaceAsks, Placed}
-use Rattle.chunks.specs.way.GiveAsks.{givesFair, GiveChunksAsks}
-use Rattle.chunks.specs.way.CallAsks.{allPlaced, settledTo, passFault, hasBit, PassAsks, TakenAsks, BitsAsks, SettleAsks, TakenBy, ChunksAnswered}
+use Rattle.chunks.specs.way.PushPre.{ownBlock, PushAllPre}
+use Rattle.chunks.specs.way.ValidPre.{ChunksValidPre}
+use Rattle.chunks.specs.way.PlacePre.{placeValid, PlacePre, Placed}
+use Rattle.chunks.specs.way.GivePre.{givesValid, GiveChunksPre}
+use Rattle.chunks.specs.way.CallPre.{allPlaced, settledTo, passFault, hasBit, PassPre, TakenPre, BitsPre, SettlePre, TakenBy, ChunksAnswered}
 use Rattle.chunks.proofs.PushLaws.{push-free, on-here, on-more}
 use Rattle.chunks.proofs.Gather.{page-start}
 use Rattle.chunks.proofs.GatherGives.{idle, ofClass, gives-count, gives-in, fates-length, all-changes}
-use Rattle.chunks.proofs.CallTests.{match-kept, match-is, chunks-fair-kept, fair-pages, words-on, fits-count, fits-lands, match-apart, match-fits, chunks-below, slots-left, page-low, page-there}
+use Rattle.chunks.proofs.CallTests.{match-kept, match-is, chunks-valid-kept, valid-pages, words-on, fits-count, fits-lands, match-apart, match-fits, chunks-below, slots-left, page-low, page-there}
 
 -- ---- the blocks back on their stacks: of the words that are tested, only FREE is another
 abbrev stacked : Field → Bool
 stacked f = eqb (region f) 6 || (eqb (region f) 4 && eqb (off f) 4)
 
-push-stacks : (b : List ℕ) (sh : Shape) (ws : List ℕ) → PushAllAsks b sh ws → Changes stacked b (pushAll b sh ws)
+push-stacks : (b : List ℕ) (sh : Shape) (ws : List ℕ) → PushAllPre b sh ws → Changes stacked b (pushAll b sh ws)
 unfolding pushAll pushOne
 push-stacks b sh [] a = changes-none stacked b
 push-stacks b sh (w ∷ ws) a =
     let q = pageAt w in
     let e = on-here w ws q (eq-eqb q q refl) in
-    let a′ : PushAllAsks b sh ws
+    let a′ : PushAllPre b sh ws
     = record { sound = a .sound; below = λ p h. a .below p (omega (arith, on-more w ws p)); there = λ p h. a .there p (omega (arith, on-more w ws p)); slots = λ p h. omega (arith, a .slots p (omega (arith, on-more w ws p)), on-more w ws p) } in
     let d = pushAll b sh ws in
     let l : get (pushAll b sh ws) (page free (pageAt w)) < 4096 = rw (push-free b sh ws a′ q) (omega (arith, e, a .slots q (omega (arith, e)))) in
@@ -61,30 +61,30 @@ every-both t u v k (g ∷ gs) e f =
     rw (k g (and-left (t g) (every t gs) e) (and-left (u g) (every u gs) f)) (every-both t u v k gs (and-right (t g) (every t gs) e) (and-right (u g) (every u gs) f))
 
 -- ---- what the passes ask
-module _ (n : ℕ) (b : List ℕ) (c : ℕ) (sh : Shape) (ws gs : List ℕ) (a : TakenAsks n b c sh ws gs) where
+module _ (n : ℕ) (b : List ℕ) (c : ℕ) (sh : Shape) (ws gs : List ℕ) (a : TakenPre n b c sh ws gs) where
   module _ (m : chunksMatch b ws gs ≡ true) where
-    pub fair-asks : ChunksFairAsks n b c sh gs
-    fair-asks = record { class = a .call .class; below = chunks-below n b c sh (a .call .single) ws gs (a .runs) m; chunks = a .chunks }
+    pub valid-pre : ChunksValidPre n b c sh gs
+    valid-pre = record { class = a .call .class; below = chunks-below n b c sh (a .call .single) ws gs (a .runs) m; chunks = a .chunks }
 
-    module _ (f : chunksFair n b c sh gs ≡ true) (fs : List ℕ) (enough : length gs ≤ length fs) (h : ℕ) where
-      fair-low : get b (arena frontier) ≤ n
-      unfolding chunksFair
-      fair-low = leb-true (get b (arena frontier)) n (and-left (leb (get b (arena frontier)) n) _ f)
+    module _ (f : chunksValid n b c sh gs ≡ true) (fs : List ℕ) (enough : length gs ≤ length fs) (h : ℕ) where
+      valid-low : get b (arena frontier) ≤ n
+      unfolding chunksValid
+      valid-low = leb-true (get b (arena frontier)) n (and-left (leb (get b (arena frontier)) n) _ f)
 
-      fair-rest : (every (λ g. pageFair b sh (countOf g) (pageOf g)) gs && (rowFair b c && cond (eqb (pagesGiven b c sh gs) 0) true (giveFair n b (pagesGiven b c sh gs)))) ≡ true
-      unfolding chunksFair
-      fair-rest = and-right (leb (get b (arena frontier)) n) _ f
+      valid-rest : (every (λ g. pageValid b sh (countOf g) (pageOf g)) gs && (rowValid b c && cond (eqb (pagesGiven b c sh gs) 0) true (giveValid n b (pagesGiven b c sh gs)))) ≡ true
+      unfolding chunksValid
+      valid-rest = and-right (leb (get b (arena frontier)) n) _ f
 
-      pages : every (λ g. pageFair b sh (countOf g) (pageOf g)) gs ≡ true
-      pages = fair-pages n b c sh gs f
+      pages : every (λ g. pageValid b sh (countOf g) (pageOf g)) gs ≡ true
+      pages = valid-pages n b c sh gs f
 
-      fair-row : rowFair b c ≡ true
-      fair-row = and-left (rowFair b c) _ (and-right (every (λ g. pageFair b sh (countOf g) (pageOf g)) gs) _ fair-rest)
+      valid-row : rowValid b c ≡ true
+      valid-row = and-left (rowValid b c) _ (and-right (every (λ g. pageValid b sh (countOf g) (pageOf g)) gs) _ valid-rest)
 
-      fair-gives : cond (eqb (pagesGiven b c sh gs) 0) true (giveFair n b (pagesGiven b c sh gs)) ≡ true
-      fair-gives = and-right (rowFair b c) _ (and-right (every (λ g. pageFair b sh (countOf g) (pageOf g)) gs) _ fair-rest)
+      valid-gives : cond (eqb (pagesGiven b c sh gs) 0) true (giveValid n b (pagesGiven b c sh gs)) ≡ true
+      valid-gives = and-right (rowValid b c) _ (and-right (every (λ g. pageValid b sh (countOf g) (pageOf g)) gs) _ valid-rest)
 
-      pushing : PushAllAsks b sh ws
+      pushing : PushAllPre b sh ws
       pushing = record {
         sound = a .call .class .sound;
         below = page-low n b c sh (a .call .single) ws gs (a .runs) m (a .call .class .few);
@@ -98,8 +98,8 @@ module _ (n : ℕ) (b : List ℕ) (c : ℕ) (sh : Shape) (ws gs : List ℕ) (a :
       hc : ltb c 76 ≡ true
       hc = lt-ltb c 76 (a .call .class .known)
 
-      row-kept : rowFair (pushAll b sh ws) c ≡ rowFair b c
-      unfolding rowFair
+      row-kept : rowValid (pushAll b sh ws) c ≡ rowValid b c
+      unfolding rowValid
       row-kept =
           let k = stack .kept in
           rw (
@@ -113,22 +113,22 @@ module _ (n : ℕ) (b : List ℕ) (c : ℕ) (sh : Shape) (ws gs : List ℕ) (a :
             k (class coldLimit c) hc refl,
           )
 
-      links-kept : (q : ℕ) → linksFair (pushAll b sh ws) q ≡ linksFair b q
+      links-kept : (q : ℕ) → linksValid (pushAll b sh ws) q ≡ linksValid b q
       links-kept q =
           let k = stack .kept in
           rw (k (page listed q) refl refl, k (page next q) refl refl, k (page prev q) refl refl, k (arena frontier) refl refl)
 
-      placing : PlaceAsks (pushAll b sh ws) c sh gs fs
+      placing : PlacePre (pushAll b sh ws) c sh gs fs
       placing =
           let e = stack .kept (arena frontier) refl refl in
           record {
             known = a .call .class .known;
             sound = a .call .class .sound;
-            few = rw e (omega (arith, fair-low, a .call .class .few));
-            long = rw (e, stack .long) (omega (arith, fair-low, a .call .class .long));
-            row = row-kept ∙ fair-row;
-            pages = every-both (chunkFits b ws) (λ g. pageFair b sh (countOf g) (pageOf g)) (λ g. placeFair (pushAll b sh ws) (pageOf g))
-                (λ g i j. rw (links-kept (pageOf g), e, lt-ltb (pageOf g) (get b (arena frontier)) (fits-lands n b c sh (a .call .single) ws gs (a .runs) m g i .low)) (links-fair b sh (countOf g) (pageOf g) j))
+            few = rw e (omega (arith, valid-low, a .call .class .few));
+            long = rw (e, stack .long) (omega (arith, valid-low, a .call .class .long));
+            row = row-kept ∙ valid-row;
+            pages = every-both (chunkFits b ws) (λ g. pageValid b sh (countOf g) (pageOf g)) (λ g. placeValid (pushAll b sh ws) (pageOf g))
+                (λ g i j. rw (links-kept (pageOf g), e, lt-ltb (pageOf g) (get b (arena frontier)) (fits-lands n b c sh (a .call .single) ws gs (a .runs) m g i .low)) (links-valid b sh (countOf g) (pageOf g) j))
                 gs (match-fits n b c sh (a .call .single) ws gs (a .runs) m) pages;
             room = enough;
           }
@@ -156,7 +156,7 @@ module _ (n : ℕ) (b : List ℕ) (c : ℕ) (sh : Shape) (ws gs : List ℕ) (a :
       same : (f : Field) → ok f ≡ true → ofClass f ≡ false → stacked f ≡ false → get (allPlaced b c sh h ws gs .book) f ≡ get b f
       same f o u v = moved .kept f o u ∙ stack .kept f o v
 
-      given-kept : (x : ℕ) → giveFair n (allPlaced b c sh h ws gs .book) x ≡ giveFair n b x
+      given-kept : (x : ℕ) → giveValid n (allPlaced b c sh h ws gs .book) x ≡ giveValid n b x
       given-kept x = give-kept n b (allPlaced b c sh h ws gs .book) (λ f. same (arena f) refl refl refl) (λ f j o. same (hole f j) o refl refl) x
 
       all-low : every (λ g. ltb (pageOf g) (get (allPlaced b c sh h ws gs .book) (arena frontier))) gs ≡ true
@@ -174,8 +174,8 @@ module _ (n : ℕ) (b : List ℕ) (c : ℕ) (sh : Shape) (ws gs : List ℕ) (a :
           (all-idle gs (match-fits n b c sh (a .call .single) ws gs (a .runs) m))
           ∙ rw (stack .kept (class emptyCount c) hc refl, stack .kept (class coldCount c) hc refl)
 
-      giving : GiveChunksAsks n (allPlaced b c sh h ws gs .book) sh gs (allPlaced b c sh h ws gs .fates ++ drop (length gs) fs)
-      unfolding givesFair
+      giving : GiveChunksPre n (allPlaced b c sh h ws gs .book) sh gs (allPlaced b c sh h ws gs .fates ++ drop (length gs) fs)
+      unfolding givesValid
       giving = record {
         few = a .call .class .few;
         long = omega (arith, moved .long, stack .long, a .call .class .long);
@@ -183,11 +183,11 @@ module _ (n : ℕ) (b : List ℕ) (c : ℕ) (sh : Shape) (ws gs : List ℕ) (a :
         below = chunks-below n b c sh (a .call .single) ws gs (a .runs) m;
         low = all-low;
         fates = omega (arith, length-append (allPlaced b c sh h ws gs .fates) (drop (length gs) fs), fates-length c hc sh (a .call .class .sound) h (pushAll b sh ws) gs);
-        fair = rw (runs-are, given-kept (pagesGiven b c sh gs)) fair-gives;
+        valid = rw (runs-are, given-kept (pagesGiven b c sh gs)) valid-gives;
       }
 
-      pub settle-asks : every (ownBlock sh) ws ≡ true → SettleAsks n b c sh h ws gs fs
-      settle-asks o = record { pushing = pushing; blocks = o; placing = placing; giving = giving }
+      pub settle-pre : every (ownBlock sh) ws ≡ true → SettlePre n b c sh h ws gs fs
+      settle-pre o = record { pushing = pushing; blocks = o; placing = placing; giving = giving }
 
 -- ---- the blocks taken
 module _ (b : List ℕ) (sh : Shape) where
@@ -200,7 +200,7 @@ module _ (b : List ℕ) (sh : Shape) where
       (changes-put isBit b d (out (pageAt w) (indexOf sh (pageAt w) w)) 0 (and-right (ltb (pageAt w) n) _ u) refl h)
 
 -- ---- the ways out of the passes
-module _ (n : ℕ) (b : List ℕ) (c : ℕ) (sh : Shape) (ws gs : List ℕ) (a : PassAsks n b c sh ws gs) where
+module _ (n : ℕ) (b : List ℕ) (c : ℕ) (sh : Shape) (ws gs : List ℕ) (a : PassPre n b c sh ws gs) where
   in-runs : (vs : List ℕ) → every (outAt n b c sh) vs ≡ true → every (inRunOf n b sh c) vs ≡ true
   in-runs [] o = refl
   in-runs (v ∷ vs) o =
@@ -233,11 +233,11 @@ module _ (n : ℕ) (b : List ℕ) (c : ℕ) (sh : Shape) (ws gs : List ℕ) (a :
   changes : Changes isBit b (cleared b sh ws)
   changes = cleared-changes b sh n ws b bits (changes-none isBit b)
 
-  as-before : TakenAsks n b c sh ws gs
+  as-before : TakenPre n b c sh ws gs
   as-before = record { call = a .call; runs = in-runs ws (a .out); chunks = a .chunks }
 
-  taken-asks : TakenAsks n (cleared b sh ws) c sh ws gs
-  taken-asks = record {
+  taken-pre : TakenPre n (cleared b sh ws) c sh ws gs
+  taken-pre = record {
     call = record {
       class = record { known = a .call .class .known; sound = a .call .class .sound; few = a .call .class .few; long = omega (arith, changes .long, a .call .class .long) };
       single = a .call .single;
@@ -246,10 +246,10 @@ module _ (n : ℕ) (b : List ℕ) (c : ℕ) (sh : Shape) (ws gs : List ℕ) (a :
     chunks = a .chunks;
   }
 
-  pub settle-next : chunksMatch b ws gs ≡ true → chunksFair n b c sh gs ≡ true → (fs : List ℕ) → length gs ≤ length fs → (h : ℕ) → SettleAsks n (cleared b sh ws) c sh h ws gs fs
+  pub settle-next : chunksMatch b ws gs ≡ true → chunksValid n b c sh gs ≡ true → (fs : List ℕ) → length gs ≤ length fs → (h : ℕ) → SettlePre n (cleared b sh ws) c sh h ws gs fs
   settle-next m f fs l h =
-      settle-asks n (cleared b sh ws) c sh ws gs taken-asks (match-kept b (cleared b sh ws) changes ws gs ∙ m)
-      (chunks-fair-kept b (cleared b sh ws) changes c (lt-ltb c 76 (a .call .class .known)) n sh gs ∙ f) fs l h (own-blocks ws (a .out))
+      settle-pre n (cleared b sh ws) c sh ws gs taken-pre (match-kept b (cleared b sh ws) changes ws gs ∙ m)
+      (chunks-valid-kept b (cleared b sh ws) changes c (lt-ltb c 76 (a .call .class .known)) n sh gs ∙ f) fs l h (own-blocks ws (a .out))
 
   module _ (t : Bool) (b′ : List ℕ) (k : Matched t b′ n b ws gs) where
     told : chunksMatch b ws gs ≡ t
@@ -265,32 +265,32 @@ module _ (n : ℕ) (b : List ℕ) (c : ℕ) (sh : Shape) (ws gs : List ℕ) (a :
       matches : chunksMatch b ws gs ≡ true
       matches = told ∙ e
 
-      pub fair-next : ChunksFairAsks n b′ c sh gs
-      fair-next = rw (k .left) (fair-asks n b c sh ws gs as-before matches)
+      pub valid-next : ChunksValidPre n b′ c sh gs
+      valid-next = rw (k .left) (valid-pre n b c sh ws gs as-before matches)
 
-      module _ (u : Bool) (j : u ≡ chunksFair n b′ c sh gs) where
-        fairs : chunksFair n b c sh gs ≡ u
-        fairs = rw (← (k .left)) (sym j)
+      module _ (u : Bool) (j : u ≡ chunksValid n b′ c sh gs) where
+        valids : chunksValid n b c sh gs ≡ u
+        valids = rw (← (k .left)) (sym j)
 
-        pub unfair : u ≡ false → TakenBy 13 b′ (passFault n b c sh ws gs) b sh ws
+        pub invalid : u ≡ false → TakenBy 13 b′ (passFault n b c sh ws gs) b sh ws
         unfolding passFault
-        unfair x = rw (matches, fairs ∙ x) (record { answer = refl; left = k .left })
+        invalid x = rw (matches, valids ∙ x) (record { answer = refl; left = k .left })
 
         module _ (x : u ≡ true) where
-          pub clear-next : BitsAsks n b′ sh ws
+          pub clear-next : BitsPre n b′ sh ws
           clear-next = rw (k .left) (record { sound = a .call .class .sound; few = a .call .class .few; long = a .call .class .long; bits = bits; blocks = own-blocks ws (a .out) })
 
           pub taken : (d : List ℕ) → d ≡ cleared b′ sh ws → TakenBy 0 d (passFault n b c sh ws gs) b sh ws
           unfolding passFault
-          taken d l = rw (matches, fairs ∙ x) (record { answer = refl; left = l ∙ rw (k .left) })
+          taken d l = rw (matches, valids ∙ x) (record { answer = refl; left = l ∙ rw (k .left) })
 
 -- ---- one pass after the other
-module _ (n : ℕ) (b : List ℕ) (c : ℕ) (sh : Shape) (h : ℕ) (ws gs fs : List ℕ) (a : SettleAsks n b c sh h ws gs fs) (b₁ : List ℕ) (e : b₁ ≡ pushAll b sh ws) where
-  pub place-next : PlaceAsks b₁ c sh gs fs
+module _ (n : ℕ) (b : List ℕ) (c : ℕ) (sh : Shape) (h : ℕ) (ws gs fs : List ℕ) (a : SettlePre n b c sh h ws gs fs) (b₁ : List ℕ) (e : b₁ ≡ pushAll b sh ws) where
+  pub place-next : PlacePre b₁ c sh gs fs
   place-next = rw e (a .placing)
 
   module _ (b₂ fs₂ : List ℕ) (p : Placed b₂ fs₂ b₁ c sh h gs fs) where
-    pub give-next : GiveChunksAsks n b₂ sh gs fs₂
+    pub give-next : GiveChunksPre n b₂ sh gs fs₂
     give-next = rw (p .left, p .fates, e) (a .giving)
 
     pub settles : (b₃ : List ℕ) → b₃ ≡ giveRuns b₂ (sh .pages) (givesIn gs fs₂) → ChunksAnswered 0 b₃ fs₂ (settledTo (allPlaced b c sh h ws gs) sh gs fs)

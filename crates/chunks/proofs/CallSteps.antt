@@ -2,7 +2,7 @@
 --     faulted .. tested          the numbers of the taking, each over the whole list or at once
 --     refused, settled           what the call answers
 --     no-list .. bad-host        numbers 7, 8, 9 and 3
---     small-asks                 what the call asks holds of every small class
+--     small-pre                  what the call asks holds of every small class
 use Prim.Native.Nat.{ℕ, _≤_, _<_}
 use native.Mathlib.Omega.{arith}
 use mathlib.Core.Bool.{Bool, true, false, cond, not, _&&_, _||_}
@@ -24,13 +24,13 @@ use Rattle.model.specs.Release.{ofKind}
 use Rattle.model.specs.Chunks.{chunksMax}
 use Rattle.calls.specs.Out.{outAt, outFault}
 use Rattle.calls.proofs.Out.{passed}
-use Rattle.calls.specs.Chunks.{chunksMatch, chunksFair, settleChunks, chunksNone, releaseChunks}
-use Rattle.release.specs.way.MarkAsks.{FaultAsks, Faulted}
+use Rattle.calls.specs.Chunks.{chunksMatch, chunksValid, settleChunks, chunksNone, releaseChunks}
+use Rattle.release.specs.way.MarkPre.{FaultPre, Faulted}
 use Rattle.chunks.specs.way.Pass.{cleared}
-use Rattle.chunks.specs.way.CallAsks.{allPlaced, settledTo, passFault, testFault, CallAsks, ListedAsks, TestAsks, PassAsks, SettleAsks, TakenBy, ChunksAnswered}
-use Rattle.chunks.specs.way.MarkAsks.{TryAsks, Tried}
+use Rattle.chunks.specs.way.CallPre.{allPlaced, settledTo, passFault, testFault, CallPre, ListedPre, TestPre, PassPre, SettlePre, TakenBy, ChunksAnswered}
+use Rattle.chunks.specs.way.MarkPre.{TryPre, Tried}
 use Rattle.chunks.proofs.Gather.{gathered}
-use Rattle.chunks.proofs.CallTests.{fair-pages}
+use Rattle.chunks.proofs.CallTests.{valid-pages}
 use Rattle.chunks.proofs.CallPasses.{settle-next}
 
 -- ---- the numbers of the taking
@@ -39,15 +39,15 @@ module _ (n : ℕ) (b : List ℕ) (c : ℕ) (sh : Shape) (ws gs : List ℕ) wher
   record NoFault : Type 0 where
     fault : outFault n b c sh ws ≡ 0
     matches : chunksMatch b ws gs ≡ true
-    fair : chunksFair n b c sh gs ≡ true
+    valid : chunksValid n b c sh gs ≡ true
 
   no-fault : testFault n b c sh ws gs ≡ 0 → NoFault
   unfolding testFault passFault
   no-fault e =
       by-cases (eqb (outFault n b c sh ws) 0)
       (λ o. by-cases (chunksMatch b ws gs)
-      (λ m. by-cases (chunksFair n b c sh gs)
-      (λ f. record { fault = eqb-true (outFault n b c sh ws) 0 o; matches = m; fair = f })
+      (λ m. by-cases (chunksValid n b c sh gs)
+      (λ f. record { fault = eqb-true (outFault n b c sh ws) 0 o; matches = m; valid = f })
       (λ f. absurd (none 13 (λ z. omega arith) (rw (o, m, f) at e))))
       (λ m. absurd (none 11 (λ z. omega arith) (rw (o, m) at e))))
       (λ o. absurd (eqb-false (outFault n b c sh ws) 0 o (rw o at e)))
@@ -57,17 +57,17 @@ module _ (n : ℕ) (b : List ℕ) (c : ℕ) (sh : Shape) (ws gs : List ℕ) wher
 
   module _ (h : ℕ) (fs : List ℕ) where
     pub by-fault : cond (not (eqb (outFault n b c sh ws) 0)) (chunksNone b fs (outFault n b c sh ws))
-        (cond (not (chunksMatch b ws gs)) (chunksNone b fs 11) (cond (not (chunksFair n b c sh gs)) (chunksNone b fs 13) (settledTo (settleChunks b c sh h ws gs) sh gs fs)))
+        (cond (not (chunksMatch b ws gs)) (chunksNone b fs 11) (cond (not (chunksValid n b c sh gs)) (chunksNone b fs 13) (settledTo (settleChunks b c sh h ws gs) sh gs fs)))
         ≡ cond (not (eqb (testFault n b c sh ws gs) 0)) (chunksNone b fs (testFault n b c sh ws gs)) (settledTo (settleChunks b c sh h ws gs) sh gs fs)
     unfolding testFault passFault
     by-fault =
         by-cases (eqb (outFault n b c sh ws) 0)
         (λ o. by-cases (chunksMatch b ws gs)
-        (λ m. by-cases (chunksFair n b c sh gs) (λ f. rw (o, m, f)) (λ f. rw (o, m, f)))
+        (λ m. by-cases (chunksValid n b c sh gs) (λ f. rw (o, m, f)) (λ f. rw (o, m, f)))
         (λ m. rw (o, m)))
         (λ o. rw (o, o))
 
-module _ (n : ℕ) (b : List ℕ) (c : ℕ) (sh : Shape) (ws gs : List ℕ) (a : ListedAsks n b c sh ws gs) where
+module _ (n : ℕ) (b : List ℕ) (c : ℕ) (sh : Shape) (ws gs : List ℕ) (a : ListedPre n b c sh ws gs) where
   sound : Sound sh
   sound = a .call .class .sound
 
@@ -77,8 +77,8 @@ module _ (n : ℕ) (b : List ℕ) (c : ℕ) (sh : Shape) (ws gs : List ℕ) (a :
   hc : ltb c 76 ≡ true
   hc = lt-ltb c 76 (a .call .class .known)
 
-  pub fault-asks : FaultAsks n b c sh ws
-  fault-asks = record { class = a .call .class; kinds = and-left (every (ofKind (sh .kind)) ws) (every (ofKind chunkKind) gs) (a .kinds) }
+  pub fault-pre : FaultPre n b c sh ws
+  fault-pre = record { class = a .call .class; kinds = and-left (every (ofKind (sh .kind)) ws) (every (ofKind chunkKind) gs) (a .kinds) }
 
   -- ---- each number over the whole list
   module _ (k : ℕ) (d : List ℕ) (z : Faulted k d n b c sh ws) where
@@ -92,16 +92,16 @@ module _ (n : ℕ) (b : List ℕ) (c : ℕ) (sh : Shape) (ws gs : List ℕ) (a :
       none : outFault n b c sh ws ≡ 0
       none = sym (z .answer) ∙ e
 
-      pub pass-asks : PassAsks n d c sh ws gs
-      pass-asks = rw (z .left) (record { call = a .call; out = passed n b c sh ws none .out; chunks = a .chunks })
+      pub pass-pre : PassPre n d c sh ws gs
+      pass-pre = rw (z .left) (record { call = a .call; out = passed n b c sh ws none .out; chunks = a .chunks })
 
       pub passed-on : (r : ℕ) (b′ : List ℕ) → TakenBy r b′ (passFault n d c sh ws gs) d sh ws → TakenBy r b′ (testFault n b c sh ws gs) b sh ws
       unfolding testFault
       passed-on r b′ p = rw none (rw (z .left) at p)
 
   -- ---- at once
-  pub try-asks : TryAsks n b c sh gs
-  try-asks = record { call = a .call; chunks = a .chunks }
+  pub try-pre : TryPre n b c sh gs
+  try-pre = record { call = a .call; chunks = a .chunks }
 
   module _ (t : Bool) (b′ : List ℕ) (z : Tried t b′ n b c sh ws gs) where
     pub at-once : t ≡ true → TakenBy 0 b′ (testFault n b c sh ws gs) b sh ws
@@ -111,8 +111,8 @@ module _ (n : ℕ) (b : List ℕ) (c : ℕ) (sh : Shape) (ws gs : List ℕ) (a :
       as-it-was : b′ ≡ b
       as-it-was = rw e at (z .left)
 
-      pub test-asks : ListedAsks n b′ c sh ws gs
-      test-asks = rw as-it-was a
+      pub test-pre : ListedPre n b′ c sh ws gs
+      test-pre = rw as-it-was a
 
       pub tested : (r : ℕ) (b″ : List ℕ) → TakenBy r b″ (testFault n b′ c sh ws gs) b′ sh ws → TakenBy r b″ (testFault n b c sh ws gs) b sh ws
       tested r b″ p = rw as-it-was at p
@@ -145,11 +145,11 @@ module _ (n : ℕ) (b : List ℕ) (c : ℕ) (sh : Shape) (ws gs : List ℕ) (a :
       every-out : every (outAt n b c sh) ws ≡ true
       every-out = passed n b c sh ws (clear .fault) .out
 
-      pub settle-asks : SettleAsks n d c sh h ws gs fs
-      settle-asks = rw cleared-is (settle-next n b c sh ws gs (record { call = a .call; out = every-out; chunks = a .chunks }) (clear .matches) (clear .fair) fs v h)
+      pub settle-pre : SettlePre n d c sh h ws gs fs
+      settle-pre = rw cleared-is (settle-next n b c sh ws gs (record { call = a .call; out = every-out; chunks = a .chunks }) (clear .matches) (clear .valid) fs v h)
 
       placed-is : allPlaced (cleared b sh ws) c sh h ws gs ≡ settleChunks b c sh h ws gs
-      placed-is = gathered n b c sh ws sound (a .call .single) hb every-out h gs hc (clear .matches) (fair-pages n b c sh gs (clear .fair))
+      placed-is = gathered n b c sh ws sound (a .call .single) hb every-out h gs hc (clear .matches) (valid-pages n b c sh gs (clear .valid))
 
       pub settled : (b′ fs′ : List ℕ) → ChunksAnswered 0 b′ fs′ (settledTo (allPlaced d c sh h ws gs) sh gs fs) → ChunksAnswered 0 b′ fs′ (releaseChunks n b c sh h ws gs fs)
       settled b′ fs′ p = rw (answers fs v h, nothing) (rw (cleared-is, placed-is) at p)
@@ -199,12 +199,12 @@ module _ (n : ℕ) (b : List ℕ) (c : ℕ) (sh : Shape) (h : ℕ) where
               pub wrong-chunks : t ≡ false → ChunksAnswered 9 b fs (releaseChunks n b c sh h ws gs fs)
               wrong-chunks e = wrong (rw (← i, p, ← j, e))
 
-              pub listed-asks : t ≡ true → CallAsks n b c sh → TestAsks n b c sh ws gs fs
-              listed-asks e a = record { listed = record { call = a; some = both-some x y; chunks = u; kinds = rw (← i, p, ← j, e) }; fates = v }
+              pub listed-pre : t ≡ true → CallPre n b c sh → TestPre n b c sh ws gs fs
+              listed-pre e a = record { listed = record { call = a; some = both-some x y; chunks = u; kinds = rw (← i, p, ← j, e) }; fates = v }
 
 -- ---- the classes that have group releases
-pub small-asks : (n : ℕ) (b : List ℕ) (c : ℕ) → c < 64 → n ≤ maxPages → words n ≤ length b → CallAsks n b c (shapeOf c)
+pub small-pre : (n : ℕ) (b : List ℕ) (c : ℕ) → c < 64 → n ≤ maxPages → words n ≤ length b → CallPre n b c (shapeOf c)
 unfolding shapeOf smallShape
-small-asks n b c l few long =
+small-pre n b c l few long =
     let e : shapeOf c .pages ≡ 1 = rw (lt-ltb c 64 l) in
     record { class = record { known = omega arith; sound = shape-sound c; few = few; long = long }; single = e }

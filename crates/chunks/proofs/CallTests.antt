@@ -1,9 +1,9 @@
 -- Numbers 11 and 13 of a group release once the blocks are taken: no test reads an out bit. And what the tests tell of the pages.
---     match-kept, chunks-fair-kept    the tests are those of the book before
---     lands                           the first page of a word's run, and of a chunk's, is the page itself, below the frontier
---     match-is                        number 11, by the words' own pages
---     chunks-land                     number 11 passed: the chunks' pages are pages of listed words
---     slots-left                      number 13 passed: the pages' stacks have room for the listed blocks
+--     match-kept, chunks-valid-kept    the tests are those of the book before
+--     lands                            the first page of a word's run, and of a chunk's, is the page itself, below the frontier
+--     match-is                         number 11, by the words' own pages
+--     chunks-land                      number 11 passed: the chunks' pages are pages of listed words
+--     slots-left                       number 13 passed: the pages' stacks have room for the listed blocks
 use Prim.Native.Nat.{ℕ, zero, suc, _+_, _≤_, _<_}
 use native.Mathlib.Omega.{arith}
 use mathlib.Core.Bool.{Bool, true, false, not, _&&_, true≢false, false≢true}
@@ -20,25 +20,25 @@ use Rattle.classes.specs.declared.Shape.{Shape}
 use Rattle.fields.specs.Field.{arena, class, hole, page, frontier, partial, empty, emptyCount, cold, coldCount, next, prev, free, carved, listed, virgin, get, words, emptyLimit, coldLimit}
 use Rattle.rules.specs.declared.Limits.{Limits}
 use Rattle.fields.proofs.Changes.{Changes}
-use Rattle.arena.specs.Fair.{giveFair}
+use Rattle.arena.specs.Valid.{giveValid}
 use Rattle.arena.proofs.Frames.{give-kept}
 use Rattle.pages.specs.Runs.{whole}
 use Rattle.pages.specs.Stack.{pageAt}
-use Rattle.pages.specs.Fair.{headerFair}
+use Rattle.pages.specs.Valid.{headerValid}
 use Rattle.calls.specs.Out.{startOf, inRunOf}
-use Rattle.calls.specs.Release.{pageFair, rowFair}
-use Rattle.calls.specs.Chunks.{blocksOn, chunkFits, chunksMatch, returnsAll, runsGiven, pagesGiven, chunksFair}
+use Rattle.calls.specs.Release.{pageValid, rowValid}
+use Rattle.calls.specs.Chunks.{blocksOn, chunkFits, chunksMatch, returnsAll, runsGiven, pagesGiven, chunksValid}
 use Rattle.release.proofs.Bits.{isBit, start-kept}
-use Rattle.release.proofs.FairSteps.{page-room, page-carved}
+use Rattle.release.proofs.ValidSteps.{page-room, page-carved}
 use Rattle.fields.specs.Ranges.{maxPages}
-use Rattle.pages.proofs.Downs.{every-mono}
+use Rattle.pages.proofs.Descending.{every-mono}
 use Rattle.model.specs.Chunks.{chunksMax}
-use Rattle.chunks.specs.way.Match.{wordsOn, pageFits, hasPage, pagesMatch, inArena, MatchAsks}
-use Rattle.chunks.specs.way.CallAsks.{CallAsks}
+use Rattle.chunks.specs.way.Match.{wordsOn, pageFits, hasPage, pagesMatch, inArena, MatchPre}
+use Rattle.chunks.specs.way.CallPre.{CallPre}
 
 -- ---- what number 11's test asks
-pub match-asks : (n : ℕ) (b : List ℕ) (c : ℕ) (sh : Shape) (gs : List ℕ) → CallAsks n b c sh → length gs ≤ chunksMax → MatchAsks n b gs
-match-asks n b c sh gs a l = record { few = a .class .few; long = a .class .long; chunks = l }
+pub match-pre : (n : ℕ) (b : List ℕ) (c : ℕ) (sh : Shape) (gs : List ℕ) → CallPre n b c sh → length gs ≤ chunksMax → MatchPre n b gs
+match-pre n b c sh gs a l = record { few = a .class .few; long = a .class .long; chunks = l }
 
 -- ---- the tests read no out bit
 module _ (b b′ : List ℕ) (h : Changes isBit b b′) where
@@ -56,8 +56,8 @@ module _ (b b′ : List ℕ) (h : Changes isBit b b′) where
   match-kept ws gs =
       rw (every-same (chunkFits b′ ws) (chunkFits b ws) gs (fits-kept ws), every-same (λ w. elem (startOf b′ w) (map pageOf gs)) (λ w. elem (startOf b w) (map pageOf gs)) ws (λ w. rw (start-kept b b′ h w)))
 
-  page-kept : (sh : Shape) (m q : ℕ) → pageFair b′ sh m q ≡ pageFair b sh m q
-  unfolding pageFair headerFair
+  page-kept : (sh : Shape) (m q : ℕ) → pageValid b′ sh m q ≡ pageValid b sh m q
+  unfolding pageValid headerValid
   page-kept sh m q =
       let k = h .kept in
       rw (
@@ -78,12 +78,12 @@ module _ (b b′ : List ℕ) (h : Changes isBit b b′) where
   runs-kept sh lim [] e k = refl
   runs-kept sh lim (g ∷ gs) e k = rw (returns-kept g, runs-kept sh lim gs e k, runs-kept sh lim gs _ _)
 
-  fair-kept : (n m : ℕ) → giveFair n b′ m ≡ giveFair n b m
-  fair-kept n m = give-kept n b b′ (λ f. h .kept (arena f) refl refl) (λ f j o. h .kept (hole f j) o refl) m
+  valid-kept : (n m : ℕ) → giveValid n b′ m ≡ giveValid n b m
+  valid-kept n m = give-kept n b b′ (λ f. h .kept (arena f) refl refl) (λ f j o. h .kept (hole f j) o refl) m
 
   module _ (c : ℕ) (hc : ltb c 76 ≡ true) where
-    row-kept : rowFair b′ c ≡ rowFair b c
-    unfolding rowFair
+    row-kept : rowValid b′ c ≡ rowValid b c
+    unfolding rowValid
     row-kept =
         let k = h .kept in
         rw (
@@ -100,15 +100,15 @@ module _ (b b′ : List ℕ) (h : Changes isBit b b′) where
     given-kept : (sh : Shape) (gs : List ℕ) → pagesGiven b′ c sh gs ≡ pagesGiven b c sh gs
     given-kept sh gs = rw (h .kept (class emptyCount c) hc refl, h .kept (class coldCount c) hc refl, h .kept (class emptyLimit c) hc refl, h .kept (class coldLimit c) hc refl, runs-kept sh _ gs _ _)
 
-    pub chunks-fair-kept : (n : ℕ) (sh : Shape) (gs : List ℕ) → chunksFair n b′ c sh gs ≡ chunksFair n b c sh gs
-    unfolding chunksFair
-    chunks-fair-kept n sh gs =
-        rw (h .kept (arena frontier) refl refl, every-same (λ g. pageFair b′ sh (countOf g) (pageOf g)) (λ g. pageFair b sh (countOf g) (pageOf g)) gs (λ g. page-kept sh (countOf g) (pageOf g)), row-kept, given-kept sh gs, fair-kept n _)
+    pub chunks-valid-kept : (n : ℕ) (sh : Shape) (gs : List ℕ) → chunksValid n b′ c sh gs ≡ chunksValid n b c sh gs
+    unfolding chunksValid
+    chunks-valid-kept n sh gs =
+        rw (h .kept (arena frontier) refl refl, every-same (λ g. pageValid b′ sh (countOf g) (pageOf g)) (λ g. pageValid b sh (countOf g) (pageOf g)) gs (λ g. page-kept sh (countOf g) (pageOf g)), row-kept, given-kept sh gs, valid-kept n _)
 
 -- ---- the pages' part of number 13
-pub fair-pages : (n : ℕ) (b : List ℕ) (c : ℕ) (sh : Shape) (gs : List ℕ) → chunksFair n b c sh gs ≡ true → every (λ g. pageFair b sh (countOf g) (pageOf g)) gs ≡ true
-unfolding chunksFair
-fair-pages n b c sh gs f = and-left (every (λ g. pageFair b sh (countOf g) (pageOf g)) gs) _ (and-right (leb (get b (arena frontier)) n) _ f)
+pub valid-pages : (n : ℕ) (b : List ℕ) (c : ℕ) (sh : Shape) (gs : List ℕ) → chunksValid n b c sh gs ≡ true → every (λ g. pageValid b sh (countOf g) (pageOf g)) gs ≡ true
+unfolding chunksValid
+valid-pages n b c sh gs f = and-left (every (λ g. pageValid b sh (countOf g) (pageOf g)) gs) _ (and-right (leb (get b (arena frontier)) n) _ f)
 
 -- ---- where the listed words are, in a class whose runs are one page
 module _ (n : ℕ) (b : List ℕ) (c : ℕ) (sh : Shape) (one : sh .pages ≡ 1) where
@@ -219,13 +219,13 @@ module _ (n : ℕ) (b : List ℕ) (c : ℕ) (sh : Shape) (one : sh .pages ≡ 1)
     pub chunks-below : every (λ g. ltb (pageOf g) n) gs ≡ true
     chunks-below = every-fits (λ g. ltb (pageOf g) n) (λ g f. lt-ltb (pageOf g) n (fits-lands g f .below)) gs match-fits
 
-    module _ (f : every (λ g. pageFair b sh (countOf g) (pageOf g)) gs ≡ true) (few : sh .capacity ≤ 4096) where
-      room-at : (q : ℕ) (hs : List ℕ) → elem q (map pageOf hs) ≡ true → every (chunkFits b ws) hs ≡ true → every (λ g. pageFair b sh (countOf g) (pageOf g)) hs ≡ true
+    module _ (f : every (λ g. pageValid b sh (countOf g) (pageOf g)) gs ≡ true) (few : sh .capacity ≤ 4096) where
+      room-at : (q : ℕ) (hs : List ℕ) → elem q (map pageOf hs) ≡ true → every (chunkFits b ws) hs ≡ true → every (λ g. pageValid b sh (countOf g) (pageOf g)) hs ≡ true
           → get b (page free q) + wordsOn ws q ≤ 4096
       room-at q [] e i j = absurd (false≢true e)
       room-at q (g ∷ hs) e i j =
           let t = chunkFits b ws in
-          let u : ℕ → Bool = λ g. pageFair b sh (countOf g) (pageOf g) in
+          let u : ℕ → Bool = λ g. pageValid b sh (countOf g) (pageOf g) in
           by-cases (eqb q (pageOf g))
           (λ d.
           let p = pageOf g in

@@ -16,7 +16,7 @@ use Rattle.words.specs.Word.{countOf, pageOf}
 use Rattle.fields.specs.Field.{page, tally, words, get, Has}
 use Rattle.pages.specs.Stack.{pageAt}
 use Rattle.chunks.specs.way.Tally.{pageIn, tallyIn, namedBy, ofChunk, chunkAt, hasChunk, runOn, agrees, fits, tallied}
-use Rattle.chunks.specs.way.TallyAsks.{Counted, OneAsks, FitAsks}
+use Rattle.chunks.specs.way.TallyPre.{Counted, OnePre, FitPre}
 use Rattle.chunks.proofs.NameSteps.{page-below, tally-there}
 
 -- ---- of_chunk
@@ -176,7 +176,7 @@ module _ (n : ℕ) (b ws gs cs : List ℕ) where
       record { answer = rw d at (v .rest); counts = λ x k. let z = rw d at (v .counts k) in omega (arith, z) }
 
 -- ---- chunk_fits
-pub one-fits : (b gs cs : List ℕ) (k : ℕ) → OneAsks b gs cs k → pageIn gs k < 2 ^ 32
+pub one-fits : (b gs cs : List ℕ) (k : ℕ) → OnePre b gs cs k → pageIn gs k < 2 ^ 32
 one-fits b gs cs k a = omega (arith, a .below)
 
 module _ (b gs cs : List ℕ) (k w u : ℕ) (e : w ≡ getD gs k 0) (c : u ≡ countOf w) where
@@ -207,7 +207,7 @@ module _ (b gs cs : List ℕ) where
   pub fit-starts : FitInv b gs cs (length gs)
   fit-starts = record { within = omega arith; rest = refl }
 
-  pub last-fits : (i : ℕ) → FitAsks b gs cs → FitInv b gs cs i → 0 < i → OneAsks b gs cs (i - 1)
+  pub last-fits : (i : ℕ) → FitPre b gs cs → FitInv b gs cs i → 0 < i → OnePre b gs cs (i - 1)
   last-fits i a v h =
       let l : i - 1 < length gs = omega (arith, v .within) in
       record { here = l; below = page-below b gs (i - 1) (a .there) l; there = tally-there b b gs (i - 1) (pageIn gs (i - 1)) refl (a .there) l refl; room = omega (arith, a .room) }

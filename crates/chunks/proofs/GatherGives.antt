@@ -22,28 +22,28 @@ use Rattle.rules.specs.declared.Limits.{Limits}
 use Rattle.fields.proofs.Laws.{get-put-same, get-put-other, length-put}
 use Rattle.fields.proofs.Changes.{Changes, changes-none, changes-trans, changes-mono}
 use Rattle.model.specs.Page.{isMedium}
-use Rattle.pages.specs.Fair.{limitsAt}
+use Rattle.pages.specs.Valid.{limitsAt}
 use Rattle.pages.specs.declared.Park.{Park}
 use Rattle.pages.specs.declared.Park.the-variants.{Empty, Cold}
 use Rattle.words.specs.Host.{digit}
-use Rattle.pages.specs.Links.{top, stored, stow}
+use Rattle.pages.specs.Links.{top, stored, parkRun}
 use Rattle.pages.specs.Carve.{carveAnew}
-use Rattle.pages.proofs.Frames.{changes-stow}
-use Rattle.model.specs.declared.Spot.{Spot}
-use Rattle.model.specs.declared.Spot.the-variants.{ToEmpty, ToCold, ToArena}
-use Rattle.model.specs.Spot.{isEmpty, isCold, isArena, fateOf, retired}
-use Rattle.calls.specs.Release.{Released, released, unlisted, relisted, spotAt, parkAs, parkAt, emptied, markRetired}
+use Rattle.pages.proofs.Frames.{changes-park-run}
+use Rattle.model.specs.declared.Destination.{Destination}
+use Rattle.model.specs.declared.Destination.the-variants.{ToEmpty, ToCold, ToArena}
+use Rattle.model.specs.Destination.{isEmpty, isCold, isArena, fateOf, retired}
+use Rattle.calls.specs.Release.{Released, released, unlisted, relisted, destinationAt, parkAs, parkAt, emptied, setRetired}
 use Rattle.calls.specs.Chunks.{givesOf, returnsAll, runsGiven}
 use Rattle.release.specs.way.Act.{coldVirgin}
 use Rattle.release.proofs.ParkSteps.{unlisted-changes, relisted-changes, carve-changes}
 use Rattle.chunks.specs.way.Pass.{placeAt, placeAll, givesIn}
-use Rattle.chunks.proofs.GatherPlace.{stirs, place-changes}
+use Rattle.chunks.proofs.GatherPlace.{writes, place-changes}
 
--- where t tells whether the page has no block out, and k is its spot then
-pub record Adds (c q e k : ℕ) (t : Bool) (spot : Spot) (r : Released) : Type 0 where
-  pub empty : get (r .book) (class emptyCount c) ≡ cond t (e + digit (isEmpty spot)) e
-  pub cold : get (r .book) (class coldCount c) ≡ cond t (k + digit (isCold spot)) k
-  pub gives : length (givesOf q (r .fate)) ≡ cond t (digit (isArena spot)) 0
+-- where t tells whether the page has no block out, and k is its destination then
+pub record Adds (c q e k : ℕ) (t : Bool) (destination : Destination) (r : Released) : Type 0 where
+  pub empty : get (r .book) (class emptyCount c) ≡ cond t (e + digit (isEmpty destination)) e
+  pub cold : get (r .book) (class coldCount c) ≡ cond t (k + digit (isCold destination)) k
+  pub gives : length (givesOf q (r .fate)) ≡ cond t (digit (isArena destination)) 0
 
 abbrev notEmpties : Field → Bool
 notEmpties f = not (eqb (region f) 2 && eqb (off f) 2)
@@ -59,32 +59,32 @@ cold-stays sh q = by (isMedium sh)
     by false = refl
 
 module _ (n c q : ℕ) (hc : ltb c 76 ≡ true) where
-  stow-counts : (b : List ℕ) (p : Park) → leb (words n) (length b) ≡ true → get (stow b c p q) (class (stored p) c) ≡ get b (class (stored p) c) + 1
-  unfolding stow
-  stow-counts b p hb =
+  park-run-counts : (b : List ℕ) (p : Park) → leb (words n) (length b) ≡ true → get (parkRun b c p q) (class (stored p) c) ≡ get b (class (stored p) c) + 1
+  unfolding parkRun
+  park-run-counts b p hb =
       let b₁ = put b (page next q) (get b (class (top p) c)) in
       get-put-same n (put b₁ (class (top p) c) (q + 1)) (class (stored p) c) _ (rw (length-put b₁ (class (top p) c) (q + 1), length-put b (page next q) (get b (class (top p) c))) hb) hc refl
 
   module _ (sh : Shape) (s : Sound sh) (h : ℕ) where
-    as-adds : (b : List ℕ) → leb (words n) (length b) ≡ true → (spot : Spot)
-        → Adds c q (get b (class emptyCount c)) (get b (class coldCount c)) true spot (markRetired (parkAs b c sh h q spot))
+    as-adds : (b : List ℕ) → leb (words n) (length b) ≡ true → (destination : Destination)
+        → Adds c q (get b (class emptyCount c)) (get b (class coldCount c)) true destination (setRetired (parkAs b c sh h q destination))
     as-adds b hb ToEmpty = record {
-      empty = stow-counts b Empty hb;
-      cold = changes-stow notColds b c q hc Empty refl refl refl .kept (class coldCount c) hc refl ∙ omega arith;
+      empty = park-run-counts b Empty hb;
+      cold = changes-park-run notColds b c q hc Empty refl refl refl .kept (class coldCount c) hc refl ∙ omega arith;
       gives = refl;
     }
     as-adds b hb ToCold =
         let d = carveAnew b sh q (coldVirgin sh h) in
         let z = carve-changes b c sh h q (coldVirgin sh h) s in
         record {
-          empty = changes-stow notEmpties d c q hc Cold refl refl refl .kept (class emptyCount c) hc refl ∙ z .kept (class emptyCount c) hc refl ∙ omega arith;
-          cold = stow-counts d Cold (rw (z .long) hb) ∙ ap (λ x. x + 1) (z .kept (class coldCount c) hc refl);
+          empty = changes-park-run notEmpties d c q hc Cold refl refl refl .kept (class emptyCount c) hc refl ∙ z .kept (class emptyCount c) hc refl ∙ omega arith;
+          cold = park-run-counts d Cold (rw (z .long) hb) ∙ ap (λ x. x + 1) (z .kept (class coldCount c) hc refl);
           gives = cold-stays sh q;
         }
     as-adds b hb ToArena = record { empty = omega arith; cold = omega arith; gives = refl }
 
     pub place-adds : (b : List ℕ) → leb (words n) (length b) ≡ true
-        → Adds c q (get b (class emptyCount c)) (get b (class coldCount c)) (eqb (get b (page carved q)) (get b (page free q))) (spotAt b c sh) (placeAt b c sh h q)
+        → Adds c q (get b (class emptyCount c)) (get b (class coldCount c)) (eqb (get b (page carved q)) (get b (page free q))) (destinationAt b c sh) (placeAt b c sh h q)
     unfolding placeAt parkAt emptied
     place-adds b hb =
         let d = put b (page virgin q) 0 in
@@ -103,7 +103,7 @@ module _ (n c q : ℕ) (hc : ltb c 76 ≡ true) where
             ∙ get-put-other d₀ (page carved q) (class k c) 0 refl hc refl
             ∙ get-put-other b (page virgin q) (class k c) 0 refl hc refl
 
-        by : (t : Bool) → Adds c q (get b (class emptyCount c)) (get b (class coldCount c)) t (spotAt b c sh) (cond t (markRetired (parkAs (unlisted d₁ c q) c sh h q (spotAt d₁ c sh))) (released (relisted d₀ c q) 0))
+        by : (t : Bool) → Adds c q (get b (class emptyCount c)) (get b (class coldCount c)) t (destinationAt b c sh) (cond t (setRetired (parkAs (unlisted d₁ c q) c sh h q (destinationAt d₁ c sh))) (released (relisted d₀ c q) 0))
         by true =
             let u = unlisted d₁ c q in
             let z = unlisted-changes d₁ c q (ltb-true c 76 hc) in
@@ -111,8 +111,8 @@ module _ (n c q : ℕ) (hc : ltb c 76 ≡ true) where
             let k : get (unlisted d₁ c q) (class coldCount c) ≡ get b (class coldCount c) = z .kept (class coldCount c) hc refl ∙ same (stored Cold) in
             let l : length (unlisted d₁ c q) ≡ length b
             = z .long ∙ length-put (put d₀ (page carved q) 0) (page free q) 0 ∙ length-put d₀ (page carved q) 0 ∙ length-put b (page virgin q) 0 in
-            let x : spotAt d₁ c sh ≡ spotAt b c sh = rw (same (stored Empty), same (stored Cold), same emptyLimit, same coldLimit) in
-            rw x (rw (e, k) at (as-adds u (rw l hb) (spotAt b c sh)))
+            let x : destinationAt d₁ c sh ≡ destinationAt b c sh = rw (same (stored Empty), same (stored Cold), same emptyLimit, same coldLimit) in
+            rw x (rw (e, k) at (as-adds u (rw l hb) (destinationAt b c sh)))
         by false =
             let z = relisted-changes d₀ c q (ltb-true c 76 hc) in
             record {
@@ -129,7 +129,7 @@ abbrev pub ofClass : Field → Bool
 ofClass f = eqb (region f) 2 || leb 4 (region f)
 
 module _ (c : ℕ) (hc : ltb c 76 ≡ true) (sh : Shape) (s : Sound sh) (h : ℕ) where
-  idle-kept : (b₀ : List ℕ) (q : ℕ) (b b′ : List ℕ) → Changes (stirs q) b b′ → (gs : List ℕ) → elem q (map pageOf gs) ≡ false
+  idle-kept : (b₀ : List ℕ) (q : ℕ) (b b′ : List ℕ) → Changes (writes q) b b′ → (gs : List ℕ) → elem q (map pageOf gs) ≡ false
       → All (λ g. idle b (pageOf g) ≡ returnsAll b₀ g) gs → All (λ g. idle b′ (pageOf g) ≡ returnsAll b₀ g) gs
   idle-kept b₀ q b b′ z [] e a = tt
   idle-kept b₀ q b b′ z (g ∷ gs) e a =
@@ -170,14 +170,14 @@ module _ (c : ℕ) (hc : ltb c 76 ≡ true) (sh : Shape) (s : Sound sh) (h : ℕ
   fates-length b [] = refl
   fates-length b (g ∷ gs) = ap suc (fates-length (placeAt b c sh h (pageOf g) .book) gs)
 
-  stirs-class : (q : ℕ) (f : Field) → stirs q f ≡ true → ofClass f ≡ true
-  stirs-class q (arena k) e = e
-  stirs-class q (mark p j) e = e
-  stirs-class q (class k d) e = refl
-  stirs-class q (hole k i) e = e
-  stirs-class q (page k p) e = refl
-  stirs-class q (out p i) e = refl
-  stirs-class q (slot p i) e = refl
+  writes-class : (q : ℕ) (f : Field) → writes q f ≡ true → ofClass f ≡ true
+  writes-class q (arena k) e = e
+  writes-class q (mark p j) e = e
+  writes-class q (class k d) e = refl
+  writes-class q (hole k i) e = e
+  writes-class q (page k p) e = refl
+  writes-class q (out p i) e = refl
+  writes-class q (slot p i) e = refl
 
   pub all-changes : (b gs : List ℕ) → Changes ofClass b (placeAll b c sh h gs .book)
   unfolding placeAll
@@ -185,4 +185,4 @@ module _ (c : ℕ) (hc : ltb c 76 ≡ true) (sh : Shape) (s : Sound sh) (h : ℕ
   all-changes b (g ∷ gs) =
       let q = pageOf g in
       let r = placeAt b c sh h q in
-      changes-trans ofClass b (r .book) _ (changes-mono (stirs q) ofClass b (r .book) (stirs-class q) (place-changes c q hc sh (s .few) h b)) (all-changes (r .book) gs)
+      changes-trans ofClass b (r .book) _ (changes-mono (writes q) ofClass b (r .book) (writes-class q) (place-changes c q hc sh (s .few) h b)) (all-changes (r .book) gs)

@@ -21,15 +21,15 @@ use Rattle.fields.proofs.Changes.{Changes, changes-none, changes-put, changes-t
 use Rattle.pages.specs.declared.Park.{Park}
 use Rattle.pages.specs.declared.Park.the-variants.{Empty, Cold}
 use Rattle.words.specs.Host.{digit}
-use Rattle.pages.specs.Stack.{downs, marks, push}
-use Rattle.pages.specs.Links.{pointNext, linked, cutOut, link, unlink, top, stored, stow}
+use Rattle.pages.specs.Stack.{descending, setOuts, push}
+use Rattle.pages.specs.Links.{pointNext, linked, cutOut, link, unlink, top, stored, parkRun}
 use Rattle.pages.specs.Carve.{stocked, carveAnew}
-use Rattle.pages.proofs.Downs.{small, length-downs}
+use Rattle.pages.proofs.Descending.{small, length-descending}
 use Rattle.pages.proofs.Frames.{stocked-le}
-use Rattle.pages.proofs.Frames.{changes-link, changes-unlink, changes-stow, changes-carve}
-use Rattle.model.specs.declared.Spot.{Spot}
-use Rattle.model.specs.declared.Spot.the-variants.{ToEmpty, ToCold, ToArena}
-use Rattle.calls.specs.Release.{Released, released, unlisted, relisted, parkAs, parkedIn, spotAt, parkAt, emptied, markRetired}
+use Rattle.pages.proofs.Frames.{changes-link, changes-unlink, changes-park-run, changes-carve}
+use Rattle.model.specs.declared.Destination.{Destination}
+use Rattle.model.specs.declared.Destination.the-variants.{ToEmpty, ToCold, ToArena}
+use Rattle.calls.specs.Release.{Released, released, unlisted, relisted, parkAs, parkedIn, destinationAt, parkAt, emptied, setRetired}
 use Rattle.release.specs.way.Act.{coldVirgin}
 use Rattle.chunks.specs.way.Pass.{placeAt}
 
@@ -57,10 +57,10 @@ module _ (t : Field → Bool) (f : Field) (v : ℕ) (of : ok f ≡ true) (tf : t
   past-push b d q m (i ∷ is) ts l e =
       past-put (push b q m is) (push d q m is) (slot q (m + length is)) i (lt-ltb (m + length is) 4096 (omega arith)) (ts (m + length is)) (past-push b d q m is ts (omega arith) e)
 
-  pub past-marks : (b d : List ℕ) (q u : ℕ) (is : List ℕ) → ((i : ℕ) → t (out q i) ≡ false) → every small is ≡ true → d ≡ put b f v → marks d q u is ≡ put (marks b q u is) f v
+  pub past-marks : (b d : List ℕ) (q u : ℕ) (is : List ℕ) → ((i : ℕ) → t (out q i) ≡ false) → every small is ≡ true → d ≡ put b f v → setOuts d q u is ≡ put (setOuts b q u is) f v
   past-marks b d q u [] ts l e = e
   past-marks b d q u (i ∷ is) ts l e =
-      past-put (marks b q u is) (marks d q u is) (out q i) u (and-left (small i) (every small is) l) (ts i) (past-marks b d q u is ts (and-right (small i) (every small is) l) e)
+      past-put (setOuts b q u is) (setOuts d q u is) (out q i) u (and-left (small i) (every small is) l) (ts i) (past-marks b d q u is ts (and-right (small i) (every small is) l) e)
 
 -- ---- past the placing of page q
 pub own : (q : ℕ) → not (eqb q q) ≡ false
@@ -118,9 +118,9 @@ module _ (c q : ℕ) (hc : ltb c 76 ≡ true) (f : Field) (v : ℕ) (of : ok f �
       by true = link-past b
       by false = refl
 
-  stow-past : (b : List ℕ) (k : Park) → stow (put b f v) c k q ≡ put (stow b c k q) f v
-  unfolding stow
-  stow-past b k =
+  park-run-past : (b : List ℕ) (k : Park) → parkRun (put b f v) c k q ≡ put (parkRun b c k q) f v
+  unfolding parkRun
+  park-run-past b k =
       rw (idle b (class (top k) c) hc refl, idle b (class (stored k) c) hc refl)
       (past _ _ (class (stored k) c) _ hc refl
       (past _ _ (class (top k) c) _ hc refl
@@ -135,22 +135,22 @@ module _ (c q : ℕ) (hc : ltb c 76 ≡ true) (f : Field) (v : ℕ) (of : ok f �
     unfolding carveAnew
     carve-past b z =
         let k = stocked sh in
-        let l : 0 + length (downs 0 k) ≤ 4096 = omega (arith, length-downs 0 k, stocked-le sh k refl few) in
+        let l : 0 + length (descending 0 k) ≤ 4096 = omega (arith, length-descending 0 k, stocked-le sh k refl few) in
         past _ _ (page free q) k refl (own q)
         (past _ _ (page carved q) k refl (own q)
         (past _ _ (page virgin q) (digit z) refl refl
-        (past-push (aside q) f v of tf b _ q 0 (downs 0 k) (λ i. own q) l refl)))
+        (past-push (aside q) f v of tf b _ q 0 (descending 0 k) (λ i. own q) l refl)))
 
-    as-past : (b : List ℕ) (h : ℕ) (s : Spot) → parkAs (put b f v) c sh h q s ≡ onBook after (parkAs b c sh h q s)
+    as-past : (b : List ℕ) (h : ℕ) (s : Destination) → parkAs (put b f v) c sh h q s ≡ onBook after (parkAs b c sh h q s)
     unfolding after
-    as-past b h ToEmpty = rw (stow-past b Empty)
-    as-past b h ToCold = rw (carve-past b (coldVirgin sh h), stow-past (carveAnew b sh q (coldVirgin sh h)) Cold)
+    as-past b h ToEmpty = rw (park-run-past b Empty)
+    as-past b h ToCold = rw (carve-past b (coldVirgin sh h), park-run-past (carveAnew b sh q (coldVirgin sh h)) Cold)
     as-past b h ToArena = refl
 
     park-past : (b : List ℕ) (h : ℕ) → parkAt (put b f v) c sh h q ≡ onBook after (parkAt b c sh h q)
     unfolding parkAt
     park-past b h =
-        rw (idle b (class emptyCount c) hc refl, idle b (class coldCount c) hc refl, idle b (class emptyLimit c) hc refl, idle b (class coldLimit c) hc refl, unlisted-past b) (as-past (unlisted b c q) h (spotAt b c sh))
+        rw (idle b (class emptyCount c) hc refl, idle b (class coldCount c) hc refl, idle b (class emptyLimit c) hc refl, idle b (class coldLimit c) hc refl, unlisted-past b) (as-past (unlisted b c q) h (destinationAt b c sh))
 
     pub place-past : (b : List ℕ) (h : ℕ) → placeAt (put b f v) c sh h q ≡ onBook (λ d. put d f v) (placeAt b c sh h q)
     unfolding placeAt after
@@ -158,58 +158,58 @@ module _ (c q : ℕ) (hc : ltb c 76 ≡ true) (f : Field) (v : ℕ) (of : ok f �
         let d = put b (page virgin q) 0 in
         rw (past b _ (page virgin q) 0 refl refl refl, idle d (page carved q) refl (own q), idle d (page free q) refl (own q)) (by d (eqb (get d (page carved q)) (get d (page free q))))
       where
-        by : (d : List ℕ) (t : Bool) → cond t (markRetired (parkAt (emptied (put d f v) q) c sh h q)) (released (relisted (put d f v) c q) 0)
-            ≡ onBook (λ d. put d f v) (cond t (markRetired (parkAt (emptied d q) c sh h q)) (released (relisted d c q) 0))
+        by : (d : List ℕ) (t : Bool) → cond t (setRetired (parkAt (emptied (put d f v) q) c sh h q)) (released (relisted (put d f v) c q) 0)
+            ≡ onBook (λ d. put d f v) (cond t (setRetired (parkAt (emptied d q) c sh h q)) (released (relisted d c q) 0))
         by d true = rw (emptied-past d, park-past (emptied d q) h)
         by d false = rw (relisted-past d)
 
 -- ---- what placing may change
-abbrev pub stirs : ℕ → Field → Bool
-stirs q f = (eqb (region f) 2 && leb (off f) 4) || (leb 4 (region f) && not (aside q f))
+abbrev pub writes : ℕ → Field → Bool
+writes q f = (eqb (region f) 2 && leb (off f) 4) || (leb 4 (region f) && not (aside q f))
 
-pub stirs-own : (q : ℕ) → not (not (eqb q q)) ≡ true
-stirs-own q = rw (eq-eqb q q refl)
+pub writes-own : (q : ℕ) → not (not (eqb q q)) ≡ true
+writes-own q = rw (eq-eqb q q refl)
 
 module _ (c q : ℕ) (hc : ltb c 76 ≡ true) where
-  unlisted-stirs : (b : List ℕ) → Changes (stirs q) b (unlisted b c q)
+  unlisted-writes : (b : List ℕ) → Changes (writes q) b (unlisted b c q)
   unfolding unlisted
-  unlisted-stirs b = by (eqb (get b (page listed q)) 1)
+  unlisted-writes b = by (eqb (get b (page listed q)) 1)
     where
-      by : (t : Bool) → Changes (stirs q) b (cond t (unlink b c q) b)
-      by true = changes-unlink (stirs q) b c q hc (λ z. refl) (λ z k. refl) (λ z k. refl) refl refl refl
-      by false = changes-none (stirs q) b
+      by : (t : Bool) → Changes (writes q) b (cond t (unlink b c q) b)
+      by true = changes-unlink (writes q) b c q hc (λ z. refl) (λ z k. refl) (λ z k. refl) refl refl refl
+      by false = changes-none (writes q) b
 
-  relisted-stirs : (b : List ℕ) → Changes (stirs q) b (relisted b c q)
+  relisted-writes : (b : List ℕ) → Changes (writes q) b (relisted b c q)
   unfolding relisted
-  relisted-stirs b = by (eqb (get b (page listed q)) 0)
+  relisted-writes b = by (eqb (get b (page listed q)) 0)
     where
-      by : (t : Bool) → Changes (stirs q) b (cond t (link b c q) b)
-      by true = changes-link (stirs q) b c q hc refl refl refl refl (λ z k. refl)
-      by false = changes-none (stirs q) b
+      by : (t : Bool) → Changes (writes q) b (cond t (link b c q) b)
+      by true = changes-link (writes q) b c q hc refl refl refl refl (λ z k. refl)
+      by false = changes-none (writes q) b
 
   module _ (sh : Shape) (few : sh .capacity ≤ 4096) (h : ℕ) where
-    as-stirs : (b : List ℕ) (s : Spot) → Changes (stirs q) b (parkedIn b c sh h q s)
-    as-stirs b ToEmpty = changes-stow (stirs q) b c q hc Empty refl refl refl
-    as-stirs b ToCold =
+    as-writes : (b : List ℕ) (s : Destination) → Changes (writes q) b (parkedIn b c sh h q s)
+    as-writes b ToEmpty = changes-park-run (writes q) b c q hc Empty refl refl refl
+    as-writes b ToCold =
         let d = carveAnew b sh q (coldVirgin sh h) in
-        changes-trans (stirs q) b d _ (changes-carve (stirs q) b q (stirs-own q) refl (λ i. stirs-own q) sh (coldVirgin sh h) (stirs-own q) few)
-        (changes-stow (stirs q) d c q hc Cold refl refl refl)
-    as-stirs b ToArena = changes-none (stirs q) b
+        changes-trans (writes q) b d _ (changes-carve (writes q) b q (writes-own q) refl (λ i. writes-own q) sh (coldVirgin sh h) (writes-own q) few)
+        (changes-park-run (writes q) d c q hc Cold refl refl refl)
+    as-writes b ToArena = changes-none (writes q) b
 
-    park-stirs : (b : List ℕ) → Changes (stirs q) b (parkAt b c sh h q .book)
+    park-writes : (b : List ℕ) → Changes (writes q) b (parkAt b c sh h q .book)
     unfolding parkAt
-    park-stirs b = changes-trans (stirs q) b (unlisted b c q) _ (unlisted-stirs b) (as-stirs (unlisted b c q) (spotAt b c sh))
+    park-writes b = changes-trans (writes q) b (unlisted b c q) _ (unlisted-writes b) (as-writes (unlisted b c q) (destinationAt b c sh))
 
-    pub place-changes : (b : List ℕ) → Changes (stirs q) b (placeAt b c sh h q .book)
+    pub place-changes : (b : List ℕ) → Changes (writes q) b (placeAt b c sh h q .book)
     unfolding placeAt emptied
     place-changes b =
         let d = put b (page virgin q) 0 in
-        changes-trans (stirs q) b d _ (changes-put (stirs q) b b (page virgin q) 0 refl refl (changes-none (stirs q) b)) (by d (eqb (get d (page carved q)) (get d (page free q))))
+        changes-trans (writes q) b d _ (changes-put (writes q) b b (page virgin q) 0 refl refl (changes-none (writes q) b)) (by d (eqb (get d (page carved q)) (get d (page free q))))
       where
-        by : (d : List ℕ) (t : Bool) → Changes (stirs q) d (cond t (markRetired (parkAt (emptied d q) c sh h q)) (released (relisted d c q) 0) .book)
+        by : (d : List ℕ) (t : Bool) → Changes (writes q) d (cond t (setRetired (parkAt (emptied d q) c sh h q)) (released (relisted d c q) 0) .book)
         by d true =
             let e = emptied d q in
-            changes-trans (stirs q) d e _
-            (changes-put (stirs q) d _ (page free q) 0 refl (stirs-own q) (changes-put (stirs q) d d (page carved q) 0 refl (stirs-own q) (changes-none (stirs q) d)))
-            (park-stirs e)
-        by d false = relisted-stirs d
+            changes-trans (writes q) d e _
+            (changes-put (writes q) d _ (page free q) 0 refl (writes-own q) (changes-put (writes q) d d (page carved q) 0 refl (writes-own q) (changes-none (writes q) d)))
+            (park-writes e)
+        by d false = relisted-writes d

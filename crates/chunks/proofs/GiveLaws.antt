@@ -1,6 +1,6 @@
 -- Runs given one after another.
 --     given-length, given-frontier     the book's length and the frontier stay
---     given-fair       a give of m pages leaves a book that is fair for the rest
+--     given-valid      a give of m pages leaves a book that is valid for the rest
 --     gives-append     runs of two lists
 use Prim.Native.Nat.{ℕ, suc, _+_, _-_, _*_, _^_, _≤_, _<_}
 use native.Mathlib.Omega.{arith}
@@ -29,17 +29,17 @@ use Rattle.model.proofs.ArenaLaws.{give-frontier}
 use Rattle.model.proofs.ArenaTidy.{few-give}
 use Rattle.arena.specs.Load.{statusCode, loadHoles, loadStore, loadArena}
 use Rattle.arena.specs.Store.{storeHoles, storeTop, storeCounts, storeArena}
-use Rattle.arena.specs.Fair.{recordFair, holeEndsFair, holesEndFair, giveFair}
+use Rattle.arena.specs.Valid.{recordValid, holeEndsValid, holesEndValid, giveValid}
 use Rattle.arena.specs.Owners.{own}
 use Rattle.arena.specs.Calls.{given}
 use Rattle.arena.proofs.Frames.{loaded-length, isOwner, holes-same, holes-there, arena-changes, own-changes}
 use Rattle.runs.proofs.StoreLaws.{holes-length}
-use Rattle.runs.proofs.EndsFair.{place-fair}
-use Rattle.runs.proofs.Acts.{FairRecord, fair-record, status-code}
-use Rattle.runs.specs.way.Asks.{GiveIn}
+use Rattle.runs.proofs.EndsValid.{place-valid}
+use Rattle.runs.proofs.Acts.{ValidRecord, valid-record, status-code}
+use Rattle.runs.specs.way.Pre.{GiveIn}
 use Rattle.calls.specs.Chunks.{givesOf, giveRuns}
 use Rattle.chunks.specs.way.Pass.{givesIn}
-use Rattle.chunks.specs.way.GiveAsks.{givesFair, GiveChunkAsks, GiveChunksAsks}
+use Rattle.chunks.specs.way.GivePre.{givesValid, GiveChunkPre, GiveChunksPre}
 
 -- ---- the arena's words, stored
 module _ (n : ℕ) (b : List ℕ) (hb : leb (words n) (length b) ≡ true) (a : Arena) (few : length (a .store .holes) ≤ 4096) where
@@ -85,53 +85,53 @@ module _ (m q : ℕ) (a : Arena) where
       (λ e. rw e (leb-true (a .store .total + m) 65536 (and-left _ _ e)))
       (λ e. rw e l)
 
-  give-ends : (f : ℕ) → 1 ≤ m → q + m ≤ f → every (holeEndsFair f) (a .store .holes) ≡ true → every (holeEndsFair f) (give m q a .store .holes) ≡ true
+  give-ends : (f : ℕ) → 1 ≤ m → q + m ≤ f → every (holeEndsValid f) (a .store .holes) ≡ true → every (holeEndsValid f) (give m q a .store .holes) ≡ true
   unfolding give insert
-  give-ends f one l fair =
+  give-ends f one l valid =
       let hs = a .store .holes in
       by-cases (accepts m q (a .store))
-      (λ e. rw e (place-fair f m q one l hs fair (finds (endsAt q) hs) (finds (startsAt (q + m)) hs)))
-      (λ e. rw e fair)
+      (λ e. rw e (place-valid f m q one l hs valid (finds (endsAt q) hs) (finds (startsAt (q + m)) hs)))
+      (λ e. rw e valid)
 
 -- ---- the test
 module _ (n : ℕ) (b : List ℕ) where
-  fair-again : FairRecord n b → recordFair n b ≡ true
-  unfolding recordFair
-  fair-again k =
+  valid-again : ValidRecord n b → recordValid n b ≡ true
+  unfolding recordValid
+  valid-again k =
       rw (le-leb _ 2 (k .state), le-leb _ n (k .frontier), le-leb _ 4096 (k .holes), le-leb _ 65536 (k .holePages), le-leb _ n (k .held))
 
   module _ (x : ℕ) where
-    pub fair-told : giveFair n b x ≡ true → recordFair n b ≡ true
-    unfolding giveFair
-    fair-told e = and-left _ _ e
+    pub valid-told : giveValid n b x ≡ true → recordValid n b ≡ true
+    unfolding giveValid
+    valid-told e = and-left _ _ e
 
-    pub held-told : giveFair n b x ≡ true → x ≤ get b (arena held)
-    unfolding giveFair
-    held-told e = leb-true x (get b (arena held)) (and-left _ _ (and-right (recordFair n b) _ e))
+    pub held-told : giveValid n b x ≡ true → x ≤ get b (arena held)
+    unfolding giveValid
+    held-told e = leb-true x (get b (arena held)) (and-left _ _ (and-right (recordValid n b) _ e))
 
-    pub ends-told : giveFair n b x ≡ true → holesEndFair b ≡ true
-    unfolding giveFair
-    ends-told e = and-right (leb x (get b (arena held))) _ (and-right (recordFair n b) _ e)
+    pub ends-told : giveValid n b x ≡ true → holesEndValid b ≡ true
+    unfolding giveValid
+    ends-told e = and-right (leb x (get b (arena held))) _ (and-right (recordValid n b) _ e)
 
-    pub fair-less : recordFair n b ≡ true → holesEndFair b ≡ true → x ≤ get b (arena held) → giveFair n b x ≡ true
-    unfolding giveFair
-    fair-less e f l = rw (e, le-leb x (get b (arena held)) l) f
+    pub valid-less : recordValid n b ≡ true → holesEndValid b ≡ true → x ≤ get b (arena held) → giveValid n b x ≡ true
+    unfolding giveValid
+    valid-less e f l = rw (e, le-leb x (get b (arena held)) l) f
 
-    pub fair-some : (x ≡ 0 → ⊥) → givesFair n b x ≡ true → giveFair n b x ≡ true
-    unfolding givesFair
-    fair-some d e = rw (ne-eqb x 0 d) at e
+    pub valid-some : (x ≡ 0 → ⊥) → givesValid n b x ≡ true → giveValid n b x ≡ true
+    unfolding givesValid
+    valid-some d e = rw (ne-eqb x 0 d) at e
 
-    pub fair-any : giveFair n b x ≡ true → givesFair n b x ≡ true
-    unfolding givesFair
-    fair-any e = by-cases (eqb x 0) (λ z. rw z) (λ z. rw z e)
+    pub valid-any : giveValid n b x ≡ true → givesValid n b x ≡ true
+    unfolding givesValid
+    valid-any e = by-cases (eqb x 0) (λ z. rw z) (λ z. rw z e)
 
 -- ---- one run
-module _ (n : ℕ) (b : List ℕ) (q m : ℕ) (long : words n ≤ length b) (fair : recordFair n b ≡ true) where
+module _ (n : ℕ) (b : List ℕ) (q m : ℕ) (long : words n ≤ length b) (valid : recordValid n b ≡ true) where
   hb : leb (words n) (length b) ≡ true
   hb = le-leb (words n) (length b) long
 
-  was : FairRecord n b
-  was = fair-record n b fair
+  was : ValidRecord n b
+  was = valid-record n b valid
 
   -- the arena afterwards, and the book before the owners and HELD
   after : Arena
@@ -171,7 +171,7 @@ module _ (n : ℕ) (b : List ℕ) (q m : ℕ) (long : words n ≤ length b) (fai
   unfolding middle
   given-count = kept (arena holes) refl refl refl ∙ stored-holes n b hb after few
 
-  given-record : FairRecord n (given b q m)
+  given-record : ValidRecord n (given b q m)
   unfolding middle after loadArena loadStore
   given-record = record {
     state = rw (kept (arena state) refl refl refl ∙ stored-state n b hb after few ∙ ap statusCode (give-status m q (loadArena b)) ∙ status-code (get b (arena state)) (was .state)) (was .state);
@@ -186,72 +186,72 @@ module _ (n : ℕ) (b : List ℕ) (q m : ℕ) (long : words n ≤ length b) (fai
   given-holes = holes-same middle (given b q m) 0 (length (after .store .holes)) (let z = few in omega arith) (λ f j o l. kept (hole f j) o refl refl) ∙ stored-there n b hb after few
 
   -- the holes stay in their range: so gives in turn are tested once
-  module _ (ends : holesEndFair b ≡ true) (one : 1 ≤ m) (below : q + m ≤ get b (arena frontier)) where
-    after-ends : every (holeEndsFair (get b (arena frontier))) (after .store .holes) ≡ true
-    unfolding after loadArena loadStore holesEndFair
+  module _ (ends : holesEndValid b ≡ true) (one : 1 ≤ m) (below : q + m ≤ get b (arena frontier)) where
+    after-ends : every (holeEndsValid (get b (arena frontier))) (after .store .holes) ≡ true
+    unfolding after loadArena loadStore holesEndValid
     after-ends = give-ends m q (loadArena b) (get b (arena frontier)) one below ends
 
-    given-ends : holesEndFair (given b q m) ≡ true
-    unfolding holesEndFair
+    given-ends : holesEndValid (given b q m) ≡ true
+    unfolding holesEndValid
     given-ends = rw (given-frontier, given-count, given-holes) after-ends
 
-    pub given-fair : (x : ℕ) → m + x ≤ get b (arena held) → giveFair n (given b q m) x ≡ true
-    given-fair x l = fair-less n (given b q m) x (fair-again n (given b q m) given-record) given-ends (rw given-held (omega arith))
+    pub given-valid : (x : ℕ) → m + x ≤ get b (arena held) → giveValid n (given b q m) x ≡ true
+    given-valid x l = valid-less n (given b q m) x (valid-again n (given b q m) given-record) given-ends (rw given-held (omega arith))
 
 -- ---- runs one after another
 pub gives-append : (b : List ℕ) (m : ℕ) (xs ys : List ℕ) → giveRuns b m (xs ++ ys) ≡ giveRuns (giveRuns b m xs) m ys
 gives-append b m [] ys = refl
 gives-append b m (x ∷ xs) ys = gives-append (given b x m) m xs ys
 
-module _ (n : ℕ) (b : List ℕ) (sh : Shape) (g f : ℕ) (gs fs : List ℕ) (a : GiveChunksAsks n b sh (g ∷ gs) (f ∷ fs)) where
+module _ (n : ℕ) (b : List ℕ) (sh : Shape) (g f : ℕ) (gs fs : List ℕ) (a : GiveChunksPre n b sh (g ∷ gs) (f ∷ fs)) where
   -- where the first run is given
   module _ (e : eqb f 6 ≡ true) where
-    all-fair : giveFair n b (suc (length (givesIn gs fs)) * sh .pages) ≡ true
+    all-valid : giveValid n b (suc (length (givesIn gs fs)) * sh .pages) ≡ true
     unfolding givesIn
-    all-fair = fair-some n b (suc (length (givesIn gs fs)) * sh .pages) (λ z. omega (arith, rw (a .single) at z)) (rw e at (a .fair))
+    all-valid = valid-some n b (suc (length (givesIn gs fs)) * sh .pages) (λ z. omega (arith, rw (a .single) at z)) (rw e at (a .valid))
 
     enough : suc (length (givesIn gs fs)) ≤ get b (arena held)
-    enough = omega (arith, rw (a .single) at (held-told n b (suc (length (givesIn gs fs)) * sh .pages) all-fair))
+    enough = omega (arith, rw (a .single) at (held-told n b (suc (length (givesIn gs fs)) * sh .pages) all-valid))
 
-    first-fair : recordFair n b ≡ true
-    first-fair = fair-told n b (suc (length (givesIn gs fs)) * sh .pages) all-fair
+    first-valid : recordValid n b ≡ true
+    first-valid = valid-told n b (suc (length (givesIn gs fs)) * sh .pages) all-valid
 
-    first-ends : holesEndFair b ≡ true
-    first-ends = ends-told n b (suc (length (givesIn gs fs)) * sh .pages) all-fair
+    first-ends : holesEndValid b ≡ true
+    first-ends = ends-told n b (suc (length (givesIn gs fs)) * sh .pages) all-valid
 
     first-low : pageOf g + sh .pages ≤ get b (arena frontier)
     first-low = rw (a .single) (omega (arith, ltb-true (pageOf g) (get b (arena frontier)) (and-left _ _ (a .low))))
 
-  pub chunk-asks : GiveChunkAsks n b (sh .pages) g f
-  chunk-asks = record {
+  pub chunk-pre : GiveChunkPre n b (sh .pages) g f
+  chunk-pre = record {
     few = a .few;
     long = a .long;
     inside = rw (a .single) (omega (arith, ltb-true (pageOf g) n (and-left _ _ (a .below))));
-    fair = by-cases (eqb f 6) (λ e. rw e (fair-less n b (sh .pages) (first-fair e) (first-ends e) (rw (a .single) (omega (arith, enough e))))) (λ e. rw e);
+    valid = by-cases (eqb f 6) (λ e. rw e (valid-less n b (sh .pages) (first-valid e) (first-ends e) (rw (a .single) (omega (arith, enough e))))) (λ e. rw e);
   }
 
   pub left-length : length (giveRuns b (sh .pages) (givesOf (pageOf g) f)) ≡ length b
-  left-length = by-cases (eqb f 6) (λ e. rw e (given-length n b (pageOf g) (sh .pages) (a .long) (first-fair e))) (λ e. rw e)
+  left-length = by-cases (eqb f 6) (λ e. rw e (given-length n b (pageOf g) (sh .pages) (a .long) (first-valid e))) (λ e. rw e)
 
   left-frontier : get (giveRuns b (sh .pages) (givesOf (pageOf g) f)) (arena frontier) ≡ get b (arena frontier)
-  left-frontier = by-cases (eqb f 6) (λ e. rw e (given-frontier n b (pageOf g) (sh .pages) (a .long) (first-fair e))) (λ e. rw e)
+  left-frontier = by-cases (eqb f 6) (λ e. rw e (given-frontier n b (pageOf g) (sh .pages) (a .long) (first-valid e))) (λ e. rw e)
 
-  left-fair : givesFair n (giveRuns b (sh .pages) (givesOf (pageOf g) f)) (length (givesIn gs fs) * sh .pages) ≡ true
+  left-valid : givesValid n (giveRuns b (sh .pages) (givesOf (pageOf g) f)) (length (givesIn gs fs) * sh .pages) ≡ true
   unfolding givesIn
-  left-fair =
+  left-valid =
       by-cases (eqb f 6)
-      (λ e. rw e (fair-any n _ (length (givesIn gs fs) * sh .pages) (given-fair n b (pageOf g) (sh .pages) (a .long) (first-fair e) (first-ends e) (rw (a .single) (omega arith)) (first-low e) (length (givesIn gs fs) * sh .pages) (rw (a .single) (omega (arith, enough e))))))
-      (λ e. rw e (rw e at (a .fair)))
+      (λ e. rw e (valid-any n _ (length (givesIn gs fs) * sh .pages) (given-valid n b (pageOf g) (sh .pages) (a .long) (first-valid e) (first-ends e) (rw (a .single) (omega arith)) (first-low e) (length (givesIn gs fs) * sh .pages) (rw (a .single) (omega (arith, enough e))))))
+      (λ e. rw e (rw e at (a .valid)))
 
-  pub asks-rest : GiveChunksAsks n (giveRuns b (sh .pages) (givesOf (pageOf g) f)) sh gs fs
-  asks-rest = record {
+  pub pre-rest : GiveChunksPre n (giveRuns b (sh .pages) (givesOf (pageOf g) f)) sh gs fs
+  pre-rest = record {
     few = a .few;
     long = rw left-length (a .long);
     single = a .single;
     below = and-right (ltb (pageOf g) n) _ (a .below);
     low = rw left-frontier (and-right (ltb (pageOf g) (get b (arena frontier))) _ (a .low));
     fates = omega (arith, a .fates);
-    fair = left-fair;
+    valid = left-valid;
   }
 
 -- ---- one chunk
@@ -263,16 +263,16 @@ module _ (n : ℕ) (b : List ℕ) (m g f : ℕ) where
   pub give-none : (f ≡ 6 → ⊥) → b ≡ giveRuns b m (givesOf (pageOf g) f)
   give-none h = rw (ne-eqb f 6 h)
 
-  pub give-page : GiveChunkAsks n b m g f → pageOf g < 2 ^ 32
+  pub give-page : GiveChunkPre n b m g f → pageOf g < 2 ^ 32
   give-page a = omega (arith, a .inside, a .few)
 
   module _ (h : f ≡ 6) (q : ℕ) (j : q ≡ pageOf g) where
-    pub give-in : GiveChunkAsks n b m g f → GiveIn b n q m
+    pub give-in : GiveChunkPre n b m g f → GiveIn b n q m
     give-in a = record {
       long = a .long;
       small = a .few;
       inside = rw j (a .inside);
-      fair = rw (eq-eqb f 6 h) at (a .fair);
+      valid = rw (eq-eqb f 6 h) at (a .valid);
     }
 
     pub give-one : (b′ : List ℕ) → b′ ≡ given b q m → b′ ≡ giveRuns b m (givesOf (pageOf g) f)
@@ -284,18 +284,18 @@ module _ (n : ℕ) (b₀ : List ℕ) (sh : Shape) (gs fs : List ℕ) where
   pub record Giving (b : List ℕ) (i : ℕ) : Type 0 where
     pub within : i ≤ length gs
     pub long : length b ≡ length b₀
-    pub asks : GiveChunksAsks n b sh (drop i gs) (drop i fs)
+    pub pre : GiveChunksPre n b sh (drop i gs) (drop i fs)
     pub same : giveRuns b (sh .pages) (givesIn (drop i gs) (drop i fs)) ≡ giveRuns b₀ (sh .pages) (givesIn gs fs)
 
-  pub giving-none : GiveChunksAsks n b₀ sh gs fs → Giving b₀ 0
-  giving-none a = record { within = omega arith; long = refl; asks = a; same = refl }
+  pub giving-none : GiveChunksPre n b₀ sh gs fs → Giving b₀ 0
+  giving-none a = record { within = omega arith; long = refl; pre = a; same = refl }
 
-  module _ (b : List ℕ) (i : ℕ) (v : Giving b i) (a : GiveChunksAsks n b₀ sh gs fs) (h : i < length gs) where
-    here : GiveChunksAsks n b sh (getD gs i 0 ∷ drop (suc i) gs) (getD fs i 0 ∷ drop (suc i) fs)
-    here = rw (drop-cons gs i 0 h, drop-cons fs i 0 (omega (arith, a .fates))) at (v .asks)
+  module _ (b : List ℕ) (i : ℕ) (v : Giving b i) (a : GiveChunksPre n b₀ sh gs fs) (h : i < length gs) where
+    here : GiveChunksPre n b sh (getD gs i 0 ∷ drop (suc i) gs) (getD fs i 0 ∷ drop (suc i) fs)
+    here = rw (drop-cons gs i 0 h, drop-cons fs i 0 (omega (arith, a .fates))) at (v .pre)
 
-    pub giving-asks : GiveChunkAsks n b (sh .pages) (getD gs i 0) (getD fs i 0)
-    giving-asks = chunk-asks n b sh (getD gs i 0) (getD fs i 0) (drop (suc i) gs) (drop (suc i) fs) here
+    pub giving-pre : GiveChunkPre n b (sh .pages) (getD gs i 0) (getD fs i 0)
+    giving-pre = chunk-pre n b sh (getD gs i 0) (getD fs i 0) (drop (suc i) gs) (drop (suc i) fs) here
 
     pub giving-more : (b′ : List ℕ) → b′ ≡ giveRuns b (sh .pages) (givesOf (pageOf (getD gs i 0)) (getD fs i 0)) → Giving b′ (i + 1)
     unfolding givesIn
@@ -306,7 +306,7 @@ module _ (n : ℕ) (b₀ : List ℕ) (sh : Shape) (gs fs : List ℕ) where
         rw add-one (record {
           within = omega (arith, v .within);
           long = ap length e ∙ left-length n b sh g f (drop (suc i) gs) (drop (suc i) fs) here ∙ v .long;
-          asks = rw e (asks-rest n b sh g f (drop (suc i) gs) (drop (suc i) fs) here);
+          pre = rw e (pre-rest n b sh g f (drop (suc i) gs) (drop (suc i) fs) here);
           same = rw e (sym (gives-append b (sh .pages) (givesOf (pageOf g) f) (givesIn (drop (suc i) gs) (drop (suc i) fs))) ∙ now);
         })
 

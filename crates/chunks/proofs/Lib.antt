@@ -11,7 +11,7 @@ pub mod GatherGives
 pub mod PushLaws
 pub mod PushRuns
 pub mod GiveLaws
-pub mod FairSteps
+pub mod ValidSteps
 pub mod PlaceKept
 pub mod PlaceSteps
 pub mod PageMarks

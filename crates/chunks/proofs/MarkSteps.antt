@@ -17,15 +17,15 @@ use Rattle.classes.specs.declared.Shape.{Shape}
 use Rattle.classes.specs.way.Sound.{Sound}
 use Rattle.fields.specs.Field.{words}
 use Rattle.fields.proofs.Changes.{Changes}
-use Rattle.pages.specs.way.Asks.{ClearAsks}
+use Rattle.pages.specs.way.Pre.{ClearPre}
 use Rattle.pages.specs.Carve.{outWords}
 use Rattle.pages.specs.Runs.{whole}
 use Rattle.pages.specs.Stack.{pageAt}
-use Rattle.pages.proofs.Downs.{every-mono}
+use Rattle.pages.proofs.Descending.{every-mono}
 use Rattle.calls.specs.Out.{inRunOf, outAt, outFault}
-use Rattle.calls.specs.Chunks.{chunksMatch, chunksFair}
+use Rattle.calls.specs.Chunks.{chunksMatch, chunksValid}
 use Rattle.release.specs.way.Marks.{freshCount, freshBook, noMarks, countBy, bookBy}
-use Rattle.release.specs.way.MarkAsks.{FieldAsks, MarkedIn}
+use Rattle.release.specs.way.MarkPre.{FieldPre, MarkedIn}
 use Rattle.release.proofs.Bits.{isBit}
 use Rattle.release.proofs.RunLaws.{within-arena}
 use Rattle.release.proofs.OutLaws.{run-of-out}
@@ -35,14 +35,14 @@ use Rattle.release.proofs.Testing.{fault-none}
 use Rattle.chunks.specs.way.Match.{isPage, inArena, hasPage, pageFits, pagesMatch, arenaMatch, Matched}
 use Rattle.chunks.proofs.MatchLaws.{low-page}
 use Rattle.chunks.specs.way.Pass.{cleared}
-use Rattle.chunks.specs.way.CallAsks.{passFault, testFault}
-use Rattle.chunks.specs.way.Marks.{pageReady, ownCount, ownBook, sweep, takePages, clearPages}
-use Rattle.chunks.specs.way.MarkAsks.{OwnAsks, OwnMarked, SweepAsks, ReadyAsks, MarkedAsks, TryAsks, MatchedAsks, SetAsks, TookMarked, Tried}
+use Rattle.chunks.specs.way.CallPre.{passFault, testFault}
+use Rattle.chunks.specs.way.Marks.{pageClean, ownCount, ownBook, sweep, takePages, clearPages}
+use Rattle.chunks.specs.way.MarkPre.{OwnPre, OwnMarked, SweepPre, CleanPre, MarkedPre, TryPre, MatchedPre, SetPre, TookMarked, Tried}
 use Rattle.chunks.proofs.PageMarks.{own-count, own-book, fresh-within, none-counted, none-left, none-marked, ready-words, clears-own, takes-own}
-use Rattle.chunks.proofs.CallTests.{chunks-fair-kept, match-is}
+use Rattle.chunks.proofs.CallTests.{chunks-valid-kept, match-is}
 
 -- ---- a chunk's page
-module _ (n : ℕ) (b : List ℕ) (c : ℕ) (sh : Shape) (m g : ℕ) (a : ReadyAsks n b c sh m) (u : Bool) (e : u ≡ isPage n g) where
+module _ (n : ℕ) (b : List ℕ) (c : ℕ) (sh : Shape) (m g : ℕ) (a : CleanPre n b c sh m) (u : Bool) (e : u ≡ isPage n g) where
   pub chunk-fits : u ≡ true → pageOf g < 2 ^ 32
   unfolding isPage
   chunk-fits x = omega (arith, ltb-true (pageOf g) n (sym e ∙ x), a .class .few)
@@ -51,24 +51,24 @@ module _ (n : ℕ) (b : List ℕ) (c : ℕ) (sh : Shape) (m g : ℕ) (a : ReadyA
   no-run l true k = absurd (omega (arith, a .class .sound .paged, within-arena n c sh (a .class .sound) (pageOf g) b (sym k)))
   no-run l false k = refl
 
-  pub not-inside : u ≡ false → false ≡ pageReady n b c sh m g
-  unfolding isPage pageReady
+  pub not-inside : u ≡ false → false ≡ pageClean n b c sh m g
+  unfolding isPage pageClean
   not-inside x = rw (no-run (ltb-false (pageOf g) n (sym e ∙ x)) (whole n b sh c (pageOf g)) refl)
 
 module _ (n : ℕ) (b : List ℕ) (c : ℕ) (sh : Shape) (m g q : ℕ) (e : q ≡ pageOf g) (t : Bool) (k : t ≡ whole n b sh c q) where
-  pub not-run : t ≡ false → false ≡ pageReady n b c sh m g
-  unfolding pageReady
+  pub not-run : t ≡ false → false ≡ pageClean n b c sh m g
+  unfolding pageClean
   not-run h = rw (← e, ← k, h)
 
   module _ (h : t ≡ true) where
-    pub marks-there : ReadyAsks n b c sh m → ClearAsks b q m
+    pub marks-there : CleanPre n b c sh m → ClearPre b q m
     marks-there a =
         let z = within-arena n c sh (a .class .sound) q b (sym k ∙ h) in
         record { few = omega (arith, a .few); there = omega (arith, a .class .sound .paged, a .class .long) }
 
-    pub ready-told : (r : Bool) → r ≡ noMarks b q m → r ≡ pageReady n b c sh m g
-    unfolding pageReady
-    ready-told r x = rw (← e, ← k, h) x
+    pub clean-told : (r : Bool) → r ≡ noMarks b q m → r ≡ pageClean n b c sh m g
+    unfolding pageClean
+    clean-told r x = rw (← e, ← k, h) x
 
 -- ---- the chunks' pages in turn
 pub record Sweeping (f : List ℕ → ℕ → List ℕ) (b₀ gs b : List ℕ) (i : ℕ) : Type 0 where
@@ -86,11 +86,11 @@ module _ (f : List ℕ → ℕ → List ℕ) (b₀ gs : List ℕ) where
   pub sweep-ends : (b : List ℕ) (i : ℕ) → Sweeping f b₀ gs b i → length gs ≤ i → b ≡ sweep f b₀ gs
   sweep-ends b i v l = rw (drop-past gs i l) at (v .same)
 
-pub sweep-fits : (n : ℕ) (b : List ℕ) (m : ℕ) (gs : List ℕ) (i : ℕ) → SweepAsks n b m gs → i < length gs → pageOf (getD gs i 0) < 2 ^ 32
+pub sweep-fits : (n : ℕ) (b : List ℕ) (m : ℕ) (gs : List ℕ) (i : ℕ) → SweepPre n b m gs → i < length gs → pageOf (getD gs i 0) < 2 ^ 32
 sweep-fits n b m gs i a l = omega (arith, a .pages .few, ltb-true (pageOf (getD gs i 0)) n (every-get (λ g. ltb (pageOf g) n) gs i (a .pages .below) l))
 
-pub sweep-asks : (n : ℕ) (b b′ : List ℕ) (m : ℕ) (gs : List ℕ) (i q : ℕ) → SweepAsks n b m gs → length b′ ≡ length b → i < length gs → q ≡ pageOf (getD gs i 0) → ClearAsks b′ q m
-sweep-asks n b b′ m gs i q a k l e =
+pub sweep-pre : (n : ℕ) (b b′ : List ℕ) (m : ℕ) (gs : List ℕ) (i q : ℕ) → SweepPre n b m gs → length b′ ≡ length b → i < length gs → q ≡ pageOf (getD gs i 0) → ClearPre b′ q m
+sweep-pre n b b′ m gs i q a k l e =
     record { few = omega (arith, a .few); there = omega (arith, e, a .pages .long, ltb-true (pageOf (getD gs i 0)) n (every-get (λ g. ltb (pageOf g) n) gs i (a .pages .below) l)) }
 
 -- ---- the listed words in turn
@@ -100,7 +100,7 @@ pub record OwnInv (b : List ℕ) (sh : Shape) (ws b′ : List ℕ) (i : ℕ) : T
   pub answer : i + ownCount b′ sh (drop i ws) ≡ ownCount b sh ws
   pub left : ownBook b′ sh (drop i ws) ≡ ownBook b sh ws
 
-module _ (n : ℕ) (b : List ℕ) (sh : Shape) (ws : List ℕ) (a : OwnAsks n b sh ws) where
+module _ (n : ℕ) (b : List ℕ) (sh : Shape) (ws : List ℕ) (a : OwnPre n b sh ws) where
   pub own-starts : OwnInv b sh ws b 0
   own-starts = record { within = omega arith; long = refl; answer = omega arith; left = refl }
 
@@ -116,8 +116,8 @@ module _ (n : ℕ) (b : List ℕ) (sh : Shape) (ws : List ℕ) (a : OwnAsks n b 
     page-low : q < n
     page-low = rw e (page-in i l)
 
-    pub own-asks : FieldAsks b′ sh q
-    own-asks = record { sound = a .sound; below = omega (arith, page-low, a .single, a .few); there = omega (arith, page-low, v .long, a .long) }
+    pub own-pre : FieldPre b′ sh q
+    own-pre = record { sound = a .sound; below = omega (arith, page-low, a .single, a .few); there = omega (arith, page-low, v .long, a .long) }
 
     module _ (r : ℕ) (b″ : List ℕ) (z : MarkedIn r b″ b′ sh q ws i) where
       pub own-less : (r ≡ i → ⊥) → length ws - r < length ws - i
@@ -155,19 +155,19 @@ module _ (n : ℕ) (b : List ℕ) (sh : Shape) (ws : List ℕ) (a : OwnAsks n b 
       record { answer = omega (arith, rw d at (v .answer)); left = rw d at (v .left) }
 
 -- ---- from the marked book on
-module _ (n : ℕ) (b : List ℕ) (c : ℕ) (sh : Shape) (m : ℕ) (gs : List ℕ) (a : MarkedAsks n b c sh m gs) where
-  pub marked-sweeps : SweepAsks n b m gs
-  marked-sweeps = record { few = a .few; pages = record { few = a .fair .class .few; long = a .fair .class .long; below = a .fair .below } }
+module _ (n : ℕ) (b : List ℕ) (c : ℕ) (sh : Shape) (m : ℕ) (gs : List ℕ) (a : MarkedPre n b c sh m gs) where
+  pub marked-sweeps : SweepPre n b m gs
+  marked-sweeps = record { few = a .few; pages = record { few = a .valid .class .few; long = a .valid .class .long; below = a .valid .below } }
 
-  module _ (t : Bool) (e : t ≡ chunksFair n b c sh gs) (b′ : List ℕ) where
+  module _ (t : Bool) (e : t ≡ chunksValid n b c sh gs) (b′ : List ℕ) where
     pub marks-taken : t ≡ true → b′ ≡ takePages b m gs → TookMarked true b′ n b c sh m gs
-    marks-taken x y = let z : chunksFair n b c sh gs ≡ true = sym e ∙ x in record { answer = sym z; left = rw z y }
+    marks-taken x y = let z : chunksValid n b c sh gs ≡ true = sym e ∙ x in record { answer = sym z; left = rw z y }
 
     pub marks-cleared : t ≡ false → b′ ≡ clearPages b m gs → TookMarked false b′ n b c sh m gs
-    marks-cleared x y = let z : chunksFair n b c sh gs ≡ false = sym e ∙ x in record { answer = sym z; left = rw z y }
+    marks-cleared x y = let z : chunksValid n b c sh gs ≡ false = sym e ∙ x in record { answer = sym z; left = rw z y }
 
 -- ---- the chunks' pages have no mark set
-module _ (n : ℕ) (b : List ℕ) (c : ℕ) (sh : Shape) (m : ℕ) (ws gs : List ℕ) (a : SetAsks n b c sh m ws gs) where
+module _ (n : ℕ) (b : List ℕ) (c : ℕ) (sh : Shape) (m : ℕ) (ws gs : List ℕ) (a : SetPre n b c sh m ws gs) where
   sound : Sound sh
   sound = a .matching .all .call .class .sound
 
@@ -207,7 +207,7 @@ module _ (n : ℕ) (b : List ℕ) (c : ℕ) (sh : Shape) (m : ℕ) (ws gs : List
   unfolding inArena
   words-low = every-mono (hasPage gs) (λ w. ltb (pageAt w) n) (λ w e. lt-ltb (pageAt w) n (low-page n (pageAt w) gs pages-in e)) ws has
 
-  pub own-first : OwnAsks n b sh ws
+  pub own-first : OwnPre n b sh ws
   own-first = record { sound = sound; single = one; few = a .matching .all .call .class .few; long = long; pages = words-low }
 
   module _ (k : ℕ) (b′ : List ℕ) (z : OwnMarked k b′ b sh ws) where
@@ -217,7 +217,7 @@ module _ (n : ℕ) (b : List ℕ) (c : ℕ) (sh : Shape) (m : ℕ) (ws gs : List
     long-now : words n ≤ length b′
     long-now = rw (z .left) (omega (arith, changes .long, long))
 
-    pub sweeps : SweepAsks n b′ m gs
+    pub sweeps : SweepPre n b′ m gs
     sweeps = record { few = few; pages = record { few = a .matching .all .call .class .few; long = long-now; below = low } }
 
     pub not-all : (b″ : List ℕ) → b″ ≡ clearPages b′ m gs → Tried false b″ n b c sh ws gs
@@ -230,10 +230,10 @@ module _ (n : ℕ) (b : List ℕ) (c : ℕ) (sh : Shape) (m : ℕ) (ws gs : List
       known : AllFresh sh sound pageAt n c b ws
       known = all-fresh sh sound pageAt n c b ws (ready-words sh sound one m few all n c b gs ws (a .ready) has .0) counted
 
-      pub marked-asks : MarkedAsks n b′ c sh m gs
-      marked-asks = record {
+      pub marked-pre : MarkedPre n b′ c sh m gs
+      marked-pre = record {
         few = few;
-        fair = record {
+        valid = record {
           class = record { known = a .matching .all .call .class .known; sound = sound; few = a .matching .all .call .class .few; long = long-now };
           below = low;
           chunks = a .matching .all .chunks;
@@ -250,10 +250,10 @@ module _ (n : ℕ) (b : List ℕ) (c : ℕ) (sh : Shape) (m : ℕ) (ws gs : List
       matches : chunksMatch b ws gs ≡ true
       matches = match-is n b c sh one ws gs (every-mono (outAt n b c sh) (inRunOf n b sh c) (λ w o. run-of-out n c sh sound b w o) ws (known .out)) ∙ page-match
 
-      fair-same : chunksFair n b′ c sh gs ≡ chunksFair n b c sh gs
-      fair-same = rw (z .left) (chunks-fair-kept b (ownBook b sh ws) changes c (lt-ltb c 76 (a .matching .all .call .class .known)) n sh gs)
+      valid-same : chunksValid n b′ c sh gs ≡ chunksValid n b c sh gs
+      valid-same = rw (z .left) (chunks-valid-kept b (ownBook b sh ws) changes c (lt-ltb c 76 (a .matching .all .call .class .known)) n sh gs)
 
-      passes : chunksFair n b c sh gs ≡ true → testFault n b c sh ws gs ≡ 0
+      passes : chunksValid n b c sh gs ≡ true → testFault n b c sh ws gs ≡ 0
       unfolding testFault passFault
       passes f = rw (no-fault, matches, f)
 
@@ -265,26 +265,26 @@ module _ (n : ℕ) (b : List ℕ) (c : ℕ) (sh : Shape) (m : ℕ) (ws gs : List
 
       pub all-taken : (r : Bool) (b″ : List ℕ) → TookMarked r b″ n b′ c sh m gs → Tried r b″ n b c sh ws gs
       all-taken r b″ x =
-          let e : r ≡ chunksFair n b c sh gs = x .answer ∙ fair-same in
-          record { passed = λ t. passes (sym e ∙ t); left = x .left ∙ rw (fair-same, ← e, taken-is, cleared-is) }
+          let e : r ≡ chunksValid n b c sh gs = x .answer ∙ valid-same in
+          record { passed = λ t. passes (sym e ∙ t); left = x .left ∙ rw (valid-same, ← e, taken-is, cleared-is) }
 
 -- ---- the chunks are the list's
 module _ (n : ℕ) (b : List ℕ) (c : ℕ) (sh : Shape) (ws gs : List ℕ) where
   pub not-tried : Tried false b n b c sh ws gs
   not-tried = record { passed = λ x. absurd (true≢false (sym x)); left = refl }
 
-  module _ (a : MatchedAsks n b c sh ws gs) (m : ℕ) (i : m ≡ outWords sh) where
-    pub ready-asks : ReadyAsks n b c sh m
-    ready-asks = record { few = omega (arith, a .all .call .class .sound .few); class = a .all .call .class }
+  module _ (a : MatchedPre n b c sh ws gs) (m : ℕ) (i : m ≡ outWords sh) where
+    pub clean-pre : CleanPre n b c sh m
+    clean-pre = record { few = omega (arith, a .all .call .class .sound .few); class = a .all .call .class }
 
-    pub set-asks : (t : Bool) → t ≡ every (pageReady n b c sh m) gs → t ≡ true → SetAsks n b c sh m ws gs
-    set-asks t e x = record { matching = a; all = i; ready = sym e ∙ x }
+    pub set-pre : (t : Bool) → t ≡ every (pageClean n b c sh m) gs → t ≡ true → SetPre n b c sh m ws gs
+    set-pre t e x = record { matching = a; all = i; ready = sym e ∙ x }
 
   -- ---- from number 11 on
-  module _ (a : TryAsks n b c sh gs) where
+  module _ (a : TryPre n b c sh gs) where
     module _ (t : Bool) (b′ : List ℕ) (k : Matched t b′ n b ws gs) where
-      pub matched-asks : t ≡ true → MatchedAsks n b′ c sh ws gs
-      matched-asks y = rw (k .left) (record { all = a; matched = sym (k .answer) ∙ y })
+      pub matched-pre : t ≡ true → MatchedPre n b′ c sh ws gs
+      matched-pre y = rw (k .left) (record { all = a; matched = sym (k .answer) ∙ y })
 
       pub matched-on : (r : Bool) (b″ : List ℕ) → Tried r b″ n b′ c sh ws gs → Tried r b″ n b c sh ws gs
       matched-on r b″ z = rw (k .left) at z

@@ -12,11 +12,11 @@ use Rattle.facts.proofs.Bools.{and-left, and-right}
 use Rattle.words.specs.Word.{pageOf}
 use Rattle.fields.specs.Field.{page, tally, word, words}
 use Rattle.fields.specs.Ranges.{maxPages}
-use Rattle.pages.proofs.Downs.{every-mono}
-use Rattle.chunks.specs.way.Match.{arenaMatch, MatchAsks, Matched}
+use Rattle.pages.proofs.Descending.{every-mono}
+use Rattle.chunks.specs.way.Match.{arenaMatch, MatchPre, Matched}
 use Rattle.chunks.specs.way.Tally.{unnamed, tallied}
 use Rattle.chunks.specs.way.Match.{isPage}
-use Rattle.chunks.specs.way.TallyAsks.{tallyThere, chunkThere, NameAsks, Named, CountAsks, FitAsks, RoomAsks}
+use Rattle.chunks.specs.way.TallyPre.{tallyThere, chunkThere, NamePre, Named, CountPre, FitPre, RoomPre}
 use Rattle.chunks.proofs.NameLaws.{unnames}
 use Rattle.chunks.proofs.MatchLaws.{tallied-is}
 
@@ -33,27 +33,27 @@ chunks-there : (n : ℕ) (b gs : List ℕ) → n ≤ maxPages → words n ≤ le
 unfolding isPage chunkThere
 chunks-there n b gs f h = every-mono (isPage n) (chunkThere b) (λ g. page-there n b (pageOf g) f h) gs
 
-module _ (n : ℕ) (b ws gs ss cs : List ℕ) (a : MatchAsks n b gs) (s : RoomAsks gs ss cs) (t : Bool) (e : t ≡ every (isPage n) gs) where
+module _ (n : ℕ) (b ws gs ss cs : List ℕ) (a : MatchPre n b gs) (s : RoomPre gs ss cs) (t : Bool) (e : t ≡ every (isPage n) gs) where
   pub past-arena : t ≡ false → Matched false b n b ws gs
   unfolding arenaMatch
   past-arena z = record { answer = rw (← e, z); left = refl }
 
   module _ (z : t ≡ true) where
-    pub name-asks : NameAsks b gs ss
-    name-asks = record { there = chunks-there n b gs (a .few) (a .long) (sym e ∙ z); few = a .chunks; room = s .saved }
+    pub name-pre : NamePre b gs ss
+    name-pre = record { there = chunks-there n b gs (a .few) (a .long) (sym e ∙ z); few = a .chunks; room = s .saved }
 
     module _ (b′ : List ℕ) (k : length b′ ≡ length b) where
       long : words n ≤ length b′
       long = rw k (a .long)
 
-      pub count-asks : CountAsks n b′ gs cs
-      count-asks = record { long = long; few = a .chunks; room = s .counts; zeros = λ i. zero-at cs i (s .zeros) }
+      pub count-pre : CountPre n b′ gs cs
+      count-pre = record { long = long; few = a .chunks; room = s .counts; zeros = λ i. zero-at cs i (s .zeros) }
 
-      pub fit-asks : FitAsks b′ gs cs
-      fit-asks = record { there = chunks-there n b′ gs (a .few) long (sym e ∙ z); room = s .counts }
+      pub fit-pre : FitPre b′ gs cs
+      fit-pre = record { there = chunks-there n b′ gs (a .few) long (sym e ∙ z); room = s .counts }
 
-      pub unname-asks : (ss′ : List ℕ) → length ss′ ≡ length ss → NameAsks b′ gs ss′
-      unname-asks ss′ l = record { there = chunks-there n b′ gs (a .few) long (sym e ∙ z); few = a .chunks; room = rw l (s .saved) }
+      pub unname-pre : (ss′ : List ℕ) → length ss′ ≡ length ss → NamePre b′ gs ss′
+      unname-pre ss′ l = record { there = chunks-there n b′ gs (a .few) long (sym e ∙ z); few = a .chunks; room = rw l (s .saved) }
 
     pub matched : (b′ ss′ : List ℕ) → Named b′ ss′ b gs → (r : Bool) → r ≡ tallied n b′ ws gs → (b″ : List ℕ) → b″ ≡ unnamed b′ gs ss′ (length gs) → Matched r b″ n b ws gs
     unfolding arenaMatch

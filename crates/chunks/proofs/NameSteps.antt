@@ -18,7 +18,7 @@ use Rattle.fields.specs.Ranges.{maxPages}
 use Rattle.fields.proofs.Laws.{length-put}
 use Rattle.chunks.specs.way.Tally.{pageIn, tallyIn, named, Saved, unnamed}
 use Rattle.chunks.specs.way.Match.{isPage}
-use Rattle.chunks.specs.way.TallyAsks.{tallyThere, chunkThere, NameAsks, Named}
+use Rattle.chunks.specs.way.TallyPre.{tallyThere, chunkThere, NamePre, Named}
 
 -- ---- all_pages
 pub page-test : (v p g n : ℕ) → v ≡ g → p ≡ pageOf v → ltb p n ≡ isPage n g
@@ -113,10 +113,10 @@ module _ (b gs ss : List ℕ) where
   pub unname-starts : UnnameInv b gs ss b (length gs)
   unname-starts = record { within = omega arith; long = refl; rest = refl }
 
-  pub tally-last : (b′ : List ℕ) (i : ℕ) → NameAsks b gs ss → UnnameInv b gs ss b′ i → 0 < i → (p : ℕ) → p ≡ pageIn gs (i - 1) → Has b′ (page tally p)
+  pub tally-last : (b′ : List ℕ) (i : ℕ) → NamePre b gs ss → UnnameInv b gs ss b′ i → 0 < i → (p : ℕ) → p ≡ pageIn gs (i - 1) → Has b′ (page tally p)
   tally-last b′ i a v h p = tally-there b′ b gs (i - 1) p (v .long) (a .there) (omega (arith, v .within))
 
-  pub last-fits : (b′ : List ℕ) (i : ℕ) → NameAsks b gs ss → UnnameInv b gs ss b′ i → 0 < i → pageIn gs (i - 1) < 2 ^ 32
+  pub last-fits : (b′ : List ℕ) (i : ℕ) → NamePre b gs ss → UnnameInv b gs ss b′ i → 0 < i → pageIn gs (i - 1) < 2 ^ 32
   last-fits b′ i a v h = page-fits b gs (i - 1) (a .there) (omega (arith, v .within))
 
   pub unname-goes-on : (b′ : List ℕ) (i : ℕ) → UnnameInv b gs ss b′ i → 0 < i → (p : ℕ) → p ≡ pageIn gs (i - 1)

@@ -28,7 +28,7 @@ use Rattle.release.proofs.TakeMarks.{lengths, takes-marked, out-past, mark-past
 use Rattle.release.proofs.RunMarks.{none-taken, none-cleared, clear-past, clear-away, fresh-low, fresh-word, fresh-out, fresh-mark, clears-by, inWhole}
 use Rattle.chunks.specs.way.Match.{hasPage, inArena}
 use Rattle.chunks.specs.way.Pass.{cleared}
-use Rattle.chunks.specs.way.Marks.{pageReady, ownCount, ownBook, takePages, clearPages}
+use Rattle.chunks.specs.way.Marks.{pageClean, ownCount, ownBook, takePages, clearPages}
 
 module _ (sh : Shape) (s : Sound sh) (one : sh .pages ≡ 1) where
   -- ---- neighbours on page q
@@ -91,8 +91,8 @@ module _ (sh : Shape) (s : Sound sh) (one : sh .pages ≡ 1) where
   module _ (m : ℕ) (few : m ≤ 128) (all : sh .capacity ≤ 32 * m) where
     module _ (n c : ℕ) where
       -- ---- the pages that are ready: those of the words
-      ready-at : (b : List ℕ) (q : ℕ) (gs : List ℕ) → every (pageReady n b c sh m) gs ≡ true → elem q (map pageOf gs) ≡ true → (whole n b sh c q && noMarks b q m) ≡ true
-      unfolding pageReady
+      ready-at : (b : List ℕ) (q : ℕ) (gs : List ℕ) → every (pageClean n b c sh m) gs ≡ true → elem q (map pageOf gs) ≡ true → (whole n b sh c q && noMarks b q m) ≡ true
+      unfolding pageClean
       ready-at b q [] e h = absurd (false≢true h)
       ready-at b q (g ∷ gs) e h =
           let t : ℕ → Bool = λ g. whole n b sh c (pageOf g) && noMarks b (pageOf g) m in
@@ -100,7 +100,7 @@ module _ (sh : Shape) (s : Sound sh) (one : sh .pages ≡ 1) where
           (λ d. rw (eqb-true q (pageOf g) d) (and-left (t g) (every t gs) e))
           (λ d. ready-at b q gs (and-right (t g) (every t gs) e) (rw d at h))
 
-      pub ready-words : (b gs ws : List ℕ) → every (pageReady n b c sh m) gs ≡ true → every (hasPage gs) ws ≡ true → (every (inWhole sh s pageAt n c b) ws ≡ true) × (every (λ w. noMarks b (pageAt w) m) ws ≡ true)
+      pub ready-words : (b gs ws : List ℕ) → every (pageClean n b c sh m) gs ≡ true → every (hasPage gs) ws ≡ true → (every (inWhole sh s pageAt n c b) ws ≡ true) × (every (λ w. noMarks b (pageAt w) m) ws ≡ true)
       ready-words b gs [] e h = (refl, refl)
       ready-words b gs (w ∷ ws) e h =
           let z = ready-at b (pageAt w) gs e (and-left (hasPage gs w) _ h) in
@@ -143,15 +143,15 @@ module _ (sh : Shape) (s : Sound sh) (one : sh .pages ≡ 1) where
 
     -- ---- pages without a mark
     module _ (n c : ℕ) where
-      take-none : (b gs : List ℕ) → every (pageReady n b c sh m) gs ≡ true → takePages b m gs ≡ b
-      unfolding pageReady
+      take-none : (b gs : List ℕ) → every (pageClean n b c sh m) gs ≡ true → takePages b m gs ≡ b
+      unfolding pageClean
       take-none b [] e = refl
       take-none b (g ∷ gs) e =
           let t : ℕ → Bool = λ g. whole n b sh c (pageOf g) && noMarks b (pageOf g) m in
           ap (λ d. takePages d m gs) (none-taken b (pageOf g) m (and-right (whole n b sh c (pageOf g)) _ (and-left (t g) (every t gs) e))) ∙ take-none b gs (and-right (t g) (every t gs) e)
 
-      clear-none : (b gs : List ℕ) → every (pageReady n b c sh m) gs ≡ true → clearPages b m gs ≡ b
-      unfolding pageReady
+      clear-none : (b gs : List ℕ) → every (pageClean n b c sh m) gs ≡ true → clearPages b m gs ≡ b
+      unfolding pageClean
       clear-none b [] e = refl
       clear-none b (g ∷ gs) e =
           let t : ℕ → Bool = λ g. whole n b sh c (pageOf g) && noMarks b (pageOf g) m in
@@ -186,7 +186,7 @@ module _ (sh : Shape) (s : Sound sh) (one : sh .pages ≡ 1) where
       unfolding markedIn
       clear-fresh gs b w e o = clears-one (pageAt w) (indexOf sh (pageAt w) w / 32) _ (fresh-word sh s (pageAt w) b w o m all) gs e b
 
-      module _ (b gs ws : List ℕ) (r : every (pageReady n b c sh m) gs ≡ true) (e : every (hasPage gs) ws ≡ true) where
+      module _ (b gs ws : List ℕ) (r : every (pageClean n b c sh m) gs ≡ true) (e : every (hasPage gs) ws ≡ true) where
         pub clears-own : clearPages (ownBook b sh ws) m gs ≡ b
         clears-own = clears-by sh s pageAt (λ d. clearPages d m gs) (hasPage gs) (λ d w h o. clear-fresh gs d w h o) b ws e ∙ clear-none b gs r
 

@@ -1,11 +1,11 @@
 -- Placing a chunk's page leaves the words that placing another reads in their ranges: each code written is the page's own, 0, or one that
 -- passed its test, and a store's count grows only below its limit.
---     Row, Ties       what `rowFair` and `linksFair` test, as bounds
+--     Row, Ties       what `rowValid` and `linksValid` test, as bounds
 --     Steady b c b′   b′ has the length and FRONTIER of b, the class's row is in range, and so are a page's links wherever they were in b
 --     put-code ..     one write keeps a steady book so
 --     link-steady ..  the steps on the class's lists
 --     placed-steady   one chunk's page placed
---     asks-kept       what placing a page asks, on a steady book
+--     pre-kept        what placing a page asks, on a steady book
 use Prim.Native.Nat.{ℕ, zero, suc, _+_, _≤_, _<_}
 use native.Mathlib.Omega.{arith}
 use native.Mathlib.Decide.{decLe}
@@ -28,17 +28,17 @@ use Rattle.fields.proofs.Laws.{get-put-same, get-put-other, length-put}
 use Rattle.fields.proofs.Changes.{differ, Changes, changes-none, changes-put}
 use Rattle.pages.specs.declared.Park.{Park}
 use Rattle.pages.specs.declared.Park.the-variants.{Empty, Cold}
-use Rattle.pages.specs.Links.{pointNext, linked, cutOut, link, unlink, top, stored, stow}
+use Rattle.pages.specs.Links.{pointNext, linked, cutOut, link, unlink, top, stored, parkRun}
 use Rattle.pages.specs.Carve.{carveAnew}
 use Rattle.pages.proofs.Frames.{changes-carve}
-use Rattle.model.specs.declared.Spot.{Spot}
-use Rattle.model.specs.declared.Spot.the-variants.{ToEmpty, ToCold, ToArena}
-use Rattle.model.specs.Spot.{isEmpty, isCold}
-use Rattle.calls.specs.Release.{rowFair, unlisted, relisted, released, spotAt, parkedIn, parkAt, emptied, markRetired}
-use Rattle.pages.specs.Fair.{linksFair, storeFair, limitsAt}
-use Rattle.release.specs.way.Act.{coldVirgin, ParkingAsks}
-use Rattle.release.proofs.FairSteps.{count-low, limits-low}
-use Rattle.release.proofs.Spots.{empty-room, cold-room}
+use Rattle.model.specs.declared.Destination.{Destination}
+use Rattle.model.specs.declared.Destination.the-variants.{ToEmpty, ToCold, ToArena}
+use Rattle.model.specs.Destination.{isEmpty, isCold}
+use Rattle.calls.specs.Release.{rowValid, unlisted, relisted, released, destinationAt, parkedIn, parkAt, emptied, setRetired}
+use Rattle.pages.specs.Valid.{linksValid, storeValid, limitsAt}
+use Rattle.release.specs.way.Act.{coldVirgin, ParkingPre}
+use Rattle.release.proofs.ValidSteps.{count-low, limits-low}
+use Rattle.release.proofs.Destinations.{empty-room, cold-room}
 use Rattle.release.proofs.ParkSteps.{unlisted-changes}
 use Rattle.chunks.specs.way.Pass.{placeAt}
 
@@ -53,19 +53,19 @@ abbrev pub Ties : List ℕ → ℕ → Type 0
 Ties b x = get b (page listed x) ≡ 1 → (get b (page next x) ≤ get b (arena frontier)) × (get b (page prev x) ≤ get b (arena frontier))
 
 module _ (b : List ℕ) (c : ℕ) where
-  row-in : Row b c → rowFair b c ≡ true
-  unfolding rowFair
+  row-in : Row b c → rowValid b c ≡ true
+  unfolding rowValid
   row-in r =
       let f = get b (arena frontier) in
       rw (le-leb _ f (r .head), le-leb _ f (r .tops Empty), le-leb _ maxParked (r .counts Empty), le-leb _ f (r .tops Cold), le-leb _ maxParked (r .counts Cold), le-leb _ maxParked (r .limits .empty), le-leb _ maxParked (r .limits .cold))
 
-  pub row-out : rowFair b c ≡ true → Row b c
-  unfolding rowFair
+  pub row-out : rowValid b c ≡ true → Row b c
+  unfolding rowValid
   row-out e =
       let f = get b (arena frontier) in
       let e₁ = and-right (leb (get b (class partial c)) f) _ e in
-      let e₂ = and-left (storeFair b c Empty) _ e₁ in
-      let e₃ = and-left (storeFair b c Cold) _ (and-right (storeFair b c Empty) _ e₁) in
+      let e₂ = and-left (storeValid b c Empty) _ e₁ in
+      let e₃ = and-left (storeValid b c Cold) _ (and-right (storeValid b c Empty) _ e₁) in
       record {
         head = leb-true _ f (and-left _ _ e);
         tops = λ k. elim k [ Empty ↦ leb-true _ f (and-left _ _ e₂) | Cold ↦ leb-true _ f (and-left _ _ e₃) ];
@@ -74,7 +74,7 @@ module _ (b : List ℕ) (c : ℕ) where
       }
 
 module _ (b : List ℕ) (x : ℕ) where
-  ties-in : Ties b x → linksFair b x ≡ true
+  ties-in : Ties b x → linksValid b x ≡ true
   ties-in h = by (eqb (get b (page listed x)) 1) refl
     where
       by : (t : Bool) → eqb (get b (page listed x)) 1 ≡ t
@@ -84,7 +84,7 @@ module _ (b : List ℕ) (x : ℕ) where
           rw (le-leb _ (get b (arena frontier)) (z .0), le-leb _ (get b (arena frontier)) (z .1))
       by false e = refl
 
-  pub ties-out : linksFair b x ≡ true → Ties b x
+  pub ties-out : linksValid b x ≡ true → Ties b x
   ties-out e h =
       let z = rw (eq-eqb (get b (page listed x)) 1 h) at e in
       (leb-true _ (get b (arena frontier)) (and-left _ _ z), leb-true _ (get b (arena frontier)) (and-right (leb (get b (page next x)) (get b (arena frontier))) _ z))
@@ -321,9 +321,9 @@ module _ (b : List ℕ) (c : ℕ) (hc : ltb c 76 ≡ true) (q : ℕ) (hq : q < g
           unlink-steady (rw (s .low) at (z .0)) (rw (s .low) at (z .1))
       by false e = s
 
-  stow-steady : (k : Park) → get b′ (class (stored k) c) < maxParked → Steady b c (stow b′ c k q)
-  unfolding stow
-  stow-steady k l =
+  park-run-steady : (k : Park) → get b′ (class (stored k) c) < maxParked → Steady b c (parkRun b′ c k q)
+  unfolding parkRun
+  park-run-steady k l =
       let h = get b′ (class (top k) c) in
       let lh : h ≤ get b (arena frontier) = rw (s .low) at (s .row .tops k) in
       let s₁ = put-code b c hc b′ s (page next q) h refl refl refl lh in
@@ -332,20 +332,20 @@ module _ (b : List ℕ) (c : ℕ) (hc : ltb c 76 ≡ true) (q : ℕ) (hq : q < g
 
 -- ---- a page with none out
 module _ (b : List ℕ) (c : ℕ) (hc : ltb c 76 ≡ true) (q : ℕ) (hq : q < get b (arena frontier)) (there : words (q + 1) ≤ length b) (sh : Shape) (so : Sound sh) (h : ℕ) where
-  as-steady : (b′ : List ℕ) → Steady b c b′ → (t : Spot) → (isEmpty t ≡ true → get b′ (class (stored Empty) c) < maxParked) → (isCold t ≡ true → get b′ (class (stored Cold) c) < maxParked)
+  as-steady : (b′ : List ℕ) → Steady b c b′ → (t : Destination) → (isEmpty t ≡ true → get b′ (class (stored Empty) c) < maxParked) → (isCold t ≡ true → get b′ (class (stored Cold) c) < maxParked)
       → Steady b c (parkedIn b′ c sh h q t)
-  as-steady b′ s ToEmpty e k = stow-steady b c hc q hq there b′ s Empty (e refl)
+  as-steady b′ s ToEmpty e k = park-run-steady b c hc q hq there b′ s Empty (e refl)
   as-steady b′ s ToCold e k =
       let d = carveAnew b′ sh q (coldVirgin sh h) in
       let m : Changes isBody b′ d = changes-carve isBody b′ q refl refl (λ i. refl) sh (coldVirgin sh h) refl (so .few) in
-      stow-steady b c hc q hq there d (still-steady b c hc b′ s d m) Cold (rw (m .kept (class (stored Cold) c) hc refl) (k refl))
+      park-run-steady b c hc q hq there d (still-steady b c hc b′ s d m) Cold (rw (m .kept (class (stored Cold) c) hc refl) (k refl))
   as-steady b′ s ToArena e k = s
 
   park-steady : Ties b q → (b′ : List ℕ) → Steady b c b′ → Steady b c (parkAt b′ c sh h q .book)
   unfolding parkAt
   park-steady t b′ s =
       let m = unlisted-changes b′ c q (ltb-true c 76 hc) in
-      as-steady (unlisted b′ c q) (unlisted-steady b c hc q hq there b′ s t) (spotAt b′ c sh)
+      as-steady (unlisted b′ c q) (unlisted-steady b c hc q hq there b′ s t) (destinationAt b′ c sh)
       (λ e. rw (m .kept (class (stored Empty) c) hc refl) (omega (arith, empty-room sh _ _ _ e, s .row .limits .empty)))
       (λ e. rw (m .kept (class (stored Cold) c) hc refl) (omega (arith, cold-room sh _ _ _ e, s .row .limits .cold)))
 
@@ -357,14 +357,14 @@ module _ (b : List ℕ) (c : ℕ) (hc : ltb c 76 ≡ true) (q : ℕ) (hq : q < g
       d : List ℕ
       d = put b′ (page virgin q) 0
 
-      by : (u : Bool) → Steady b c (cond u (markRetired (parkAt (emptied d q) c sh h q)) (released (relisted d c q) 0) .book)
+      by : (u : Bool) → Steady b c (cond u (setRetired (parkAt (emptied d q) c sh h q)) (released (relisted d c q) 0) .book)
       by true = park-steady t (emptied d q) (emptied-steady b c hc d (virgin-steady b c hc b′ s q) q)
       by false = relisted-steady b c hc q hq there d (virgin-steady b c hc b′ s q)
 
 -- ---- what the functions ask
 module _ (b : List ℕ) (c : ℕ) (sh : Shape) (q : ℕ) where
-  pub asks-kept : ParkingAsks b c sh q → (b′ : List ℕ) → Steady b c b′ → ParkingAsks b′ c sh q
-  asks-kept a b′ s =
+  pub pre-kept : ParkingPre b c sh q → (b′ : List ℕ) → Steady b c b′ → ParkingPre b′ c sh q
+  pre-kept a b′ s =
       record {
         known = a .known;
         sound = a .sound;

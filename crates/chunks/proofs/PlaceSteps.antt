@@ -16,15 +16,15 @@ use Rattle.facts.proofs.Bools.{and-left, and-right}
 use Rattle.words.specs.Word.{pageOf}
 use Rattle.classes.specs.declared.Shape.{Shape}
 use Rattle.fields.specs.Field.{arena, page, frontier, free, carved, virgin, words, get, put}
-use Rattle.model.specs.Spot.{arenaFate}
-use Rattle.pages.specs.way.Asks.{LinkAsks}
-use Rattle.calls.specs.Release.{relisted, spotAt, parkAt, emptied}
-use Rattle.pages.specs.Fair.{linksFair}
-use Rattle.release.specs.way.Act.{ParkingAsks, Parked}
-use Rattle.release.proofs.Spots.{fate-low}
+use Rattle.model.specs.Destination.{arenaFate}
+use Rattle.pages.specs.way.Pre.{LinkPre}
+use Rattle.calls.specs.Release.{relisted, destinationAt, parkAt, emptied}
+use Rattle.pages.specs.Valid.{linksValid}
+use Rattle.release.specs.way.Act.{ParkingPre, Parked}
+use Rattle.release.proofs.Destinations.{fate-low}
 use Rattle.chunks.specs.way.Pass.{placeAt, placeAll}
-use Rattle.chunks.specs.way.PlaceAsks.{placeFair, PlaceAsks, Placed}
-use Rattle.chunks.proofs.PlaceKept.{Steady, row-out, ties-out, steady-none, virgin-steady, emptied-steady, placed-steady, asks-kept}
+use Rattle.chunks.specs.way.PlacePre.{placeValid, PlacePre, Placed}
+use Rattle.chunks.proofs.PlaceKept.{Steady, row-out, ties-out, steady-none, virgin-steady, emptied-steady, placed-steady, pre-kept}
 
 pub retires : (b b₁ b₂ : List ℕ) (q : ℕ) → b₁ ≡ put b (page carved q) 0 → b₂ ≡ put b₁ (page free q) 0 → b₂ ≡ emptied b q
 unfolding emptied
@@ -34,26 +34,26 @@ retires b b₁ b₂ q e k = k ∙ rw e
 module _ (b : List ℕ) (c : ℕ) (sh : Shape) (h q : ℕ) where
   parked-low : parkAt b c sh h q .fate ≤ arenaFate
   unfolding parkAt
-  parked-low = fate-low sh (spotAt b c sh)
+  parked-low = fate-low sh (destinationAt b c sh)
 
   pub fate-fits : (m r : ℕ) (b′ : List ℕ) → leb m 4 ≡ true → Parked r b′ (parkAt b c sh h q) → Fits w32 (m + r)
   fate-fits m r b′ l p = record { fits = omega (arith, leb-true m 4 l, p .fate, parked-low) }
 
 module _ (b : List ℕ) (c : ℕ) (sh : Shape) (h q : ℕ) (b₁ : List ℕ) (e : b₁ ≡ put b (page virgin q) 0) where
-  virgin-asks : ParkingAsks b c sh q → ParkingAsks b₁ c sh q
-  virgin-asks a =
+  virgin-pre : ParkingPre b c sh q → ParkingPre b₁ c sh q
+  virgin-pre a =
       let hc = lt-ltb c 76 (a .known) in
-      rw e (asks-kept b c sh q a _ (virgin-steady b c hc b (steady-none b c hc (row-out b c (a .row))) q))
+      rw e (pre-kept b c sh q a _ (virgin-steady b c hc b (steady-none b c hc (row-out b c (a .row))) q))
 
-  pub place-asks : ParkingAsks b c sh q → (b₂ : List ℕ) → b₂ ≡ emptied b₁ q → ParkingAsks b₂ c sh q
-  place-asks a b₂ k =
+  pub place-pre : ParkingPre b c sh q → (b₂ : List ℕ) → b₂ ≡ emptied b₁ q → ParkingPre b₂ c sh q
+  place-pre a b₂ k =
       let hc = lt-ltb c 76 (a .known) in
-      let a₁ = virgin-asks a in
-      rw k (asks-kept b₁ c sh q a₁ _ (emptied-steady b₁ c hc b₁ (steady-none b₁ c hc (row-out b₁ c (a₁ .row))) q))
+      let a₁ = virgin-pre a in
+      rw k (pre-kept b₁ c sh q a₁ _ (emptied-steady b₁ c hc b₁ (steady-none b₁ c hc (row-out b₁ c (a₁ .row))) q))
 
-  pub head-asks : ParkingAsks b c sh q → LinkAsks b₁ c q
-  head-asks a =
-      let a₁ = virgin-asks a in
+  pub head-pre : ParkingPre b c sh q → LinkPre b₁ c q
+  head-pre a =
+      let a₁ = virgin-pre a in
       record { known = a .known; below = a .below; there = a₁ .there; head = omega (arith, a₁ .low, row-out b₁ c (a₁ .row) .head) }
 
   module _ (x y : ℕ) (j : x ≡ get b₁ (page carved q)) (k : y ≡ get b₁ (page free q)) where
@@ -93,35 +93,35 @@ every-at P [] i l e = absurd (omega arith)
 every-at P (x ∷ xs) zero l e = and-left _ _ e
 every-at P (x ∷ xs) (suc i) l e = every-at P xs i (omega arith) (and-right (P x) _ e)
 
-module _ (b : List ℕ) (c : ℕ) (sh : Shape) (h : ℕ) (gs fs : List ℕ) (a : PlaceAsks b c sh gs fs) where
+module _ (b : List ℕ) (c : ℕ) (sh : Shape) (h : ℕ) (gs fs : List ℕ) (a : PlacePre b c sh gs fs) where
   pub place-starts : PlaceInv b c sh h gs fs b fs 0
   place-starts = record { within = omega arith; size = refl; steady = steady-none b c (lt-ltb c 76 (a .known)) (row-out b c (a .row)); left = refl; fates = refl }
 
-  fair-at : (i : ℕ) → i < length gs → placeFair b (pageOf (getD gs i 0)) ≡ true
-  fair-at i l = every-at (λ g. placeFair b (pageOf g)) gs i l (a .pages)
+  valid-at : (i : ℕ) → i < length gs → placeValid b (pageOf (getD gs i 0)) ≡ true
+  valid-at i l = every-at (λ g. placeValid b (pageOf g)) gs i l (a .pages)
 
   low-at : (i : ℕ) → i < length gs → pageOf (getD gs i 0) < get b (arena frontier)
-  low-at i l = ltb-true (pageOf (getD gs i 0)) (get b (arena frontier)) (and-left _ _ (fair-at i l))
+  low-at i l = ltb-true (pageOf (getD gs i 0)) (get b (arena frontier)) (and-left _ _ (valid-at i l))
 
   pub turn-page : (i : ℕ) → i < length gs → pageOf (getD gs i 0) < 2 ^ 32
   turn-page i l = omega (arith, low-at i l, a .few)
 
   module _ (b′ fs′ : List ℕ) (i : ℕ) (v : PlaceInv b c sh h gs fs b′ fs′ i) (l : i < length gs) (q : ℕ) (e : q ≡ pageOf (getD gs i 0)) where
-    fair : placeFair b q ≡ true
-    fair = rw e (fair-at i l)
+    valid : placeValid b q ≡ true
+    valid = rw e (valid-at i l)
 
     low : q < get b (arena frontier)
     low = rw e (low-at i l)
 
-    links : linksFair b q ≡ true
-    links = and-right (ltb q (get b (arena frontier))) _ fair
+    links : linksValid b q ≡ true
+    links = and-right (ltb q (get b (arena frontier))) _ valid
 
     there : words (q + 1) ≤ length b
     there = omega (arith, low, a .long)
 
-    pub turn-asks : ParkingAsks b′ c sh q
-    turn-asks =
-        asks-kept b c sh q
+    pub turn-pre : ParkingPre b′ c sh q
+    turn-pre =
+        pre-kept b c sh q
         (record { known = a .known; sound = a .sound; below = omega (arith, low, a .few); there = there; low = a .long; links = links; row = a .row })
         b′
         (v .steady)

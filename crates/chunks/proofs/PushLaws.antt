@@ -16,12 +16,12 @@ use Rattle.facts.proofs.Lists.{drop-past, every-get}
 use Rattle.classes.specs.declared.Shape.{Shape}
 use Rattle.fields.specs.Field.{page, slot, out, free, words, get, put, Has}
 use Rattle.fields.proofs.Laws.{get-put-same, get-put-other, length-put}
-use Rattle.pages.specs.way.Asks.{IndexAsks}
+use Rattle.pages.specs.way.Pre.{IndexPre}
 use Rattle.fields.specs.Ranges.{maxPages}
 use Rattle.pages.specs.Stack.{indexOf, isBlock, pageAt}
-use Rattle.chunks.specs.way.CallAsks.{hasBit, BitsAsks}
+use Rattle.chunks.specs.way.CallPre.{hasBit, BitsPre}
 use Rattle.chunks.specs.way.Pass.{cleared, pushOne, pushAll}
-use Rattle.chunks.specs.way.PushAsks.{ownBlock, PushAllAsks}
+use Rattle.chunks.specs.way.PushPre.{ownBlock, PushAllPre}
 use Rattle.chunks.specs.way.Match.{wordsOn}
 
 -- ---- one block
@@ -66,8 +66,8 @@ pub on-more : (w : ℕ) (ws : List ℕ) (q : ℕ) → wordsOn ws q ≤ wordsOn (
 on-more w ws q = by-cases (eqb (pageAt w) q) (λ e. omega (arith, on-here w ws q e)) (λ e. omega (arith, on-other w ws q e))
 
 -- the words after the first ask no more
-asks-tail : (b : List ℕ) (sh : Shape) (w : ℕ) (ws : List ℕ) → PushAllAsks b sh (w ∷ ws) → PushAllAsks b sh ws
-asks-tail b sh w ws a = record {
+pre-tail : (b : List ℕ) (sh : Shape) (w : ℕ) (ws : List ℕ) → PushAllPre b sh (w ∷ ws) → PushAllPre b sh ws
+pre-tail b sh w ws a = record {
   sound = a .sound;
   below = λ q h. a .below q (omega (arith, on-more w ws q));
   there = λ q h. a .there q (omega (arith, on-more w ws q));
@@ -75,28 +75,28 @@ asks-tail b sh w ws a = record {
 }
 
 -- nor do those from any place on
-pub asks-drop : (b : List ℕ) (sh : Shape) (i : ℕ) (ws : List ℕ) → PushAllAsks b sh ws → PushAllAsks b sh (drop i ws)
-asks-drop b sh zero ws a = a
-asks-drop b sh (suc i) [] a = a
-asks-drop b sh (suc i) (w ∷ ws) a = asks-drop b sh i ws (asks-tail b sh w ws a)
+pub pre-drop : (b : List ℕ) (sh : Shape) (i : ℕ) (ws : List ℕ) → PushAllPre b sh ws → PushAllPre b sh (drop i ws)
+pre-drop b sh zero ws a = a
+pre-drop b sh (suc i) [] a = a
+pre-drop b sh (suc i) (w ∷ ws) a = pre-drop b sh i ws (pre-tail b sh w ws a)
 
-head-room : (b : List ℕ) (sh : Shape) (w : ℕ) (ws : List ℕ) → PushAllAsks b sh (w ∷ ws) → get b (page free (pageAt w)) + wordsOn ws (pageAt w) < 4096
+head-room : (b : List ℕ) (sh : Shape) (w : ℕ) (ws : List ℕ) → PushAllPre b sh (w ∷ ws) → get b (page free (pageAt w)) + wordsOn ws (pageAt w) < 4096
 head-room b sh w ws a =
     let e = on-here w ws (pageAt w) (eq-eqb (pageAt w) (pageAt w) refl) in
     omega (arith, e, a .slots (pageAt w) (omega (arith, e)))
 
-head-there : (b : List ℕ) (sh : Shape) (w : ℕ) (ws : List ℕ) → PushAllAsks b sh (w ∷ ws) → words (pageAt w + 1) ≤ length b
+head-there : (b : List ℕ) (sh : Shape) (w : ℕ) (ws : List ℕ) → PushAllPre b sh (w ∷ ws) → words (pageAt w + 1) ≤ length b
 head-there b sh w ws a = a .there (pageAt w) (omega (arith, on-here w ws (pageAt w) (eq-eqb (pageAt w) (pageAt w) refl)))
 
-head-below : (b : List ℕ) (sh : Shape) (w : ℕ) (ws : List ℕ) → PushAllAsks b sh (w ∷ ws) → pageAt w < maxPages
+head-below : (b : List ℕ) (sh : Shape) (w : ℕ) (ws : List ℕ) → PushAllPre b sh (w ∷ ws) → pageAt w < maxPages
 head-below b sh w ws a = a .below (pageAt w) (omega (arith, on-here w ws (pageAt w) (eq-eqb (pageAt w) (pageAt w) refl)))
 
-pub push-free : (b : List ℕ) (sh : Shape) (ws : List ℕ) → PushAllAsks b sh ws → (q : ℕ) → get (pushAll b sh ws) (page free q) ≡ get b (page free q) + wordsOn ws q
+pub push-free : (b : List ℕ) (sh : Shape) (ws : List ℕ) → PushAllPre b sh ws → (q : ℕ) → get (pushAll b sh ws) (page free q) ≡ get b (page free q) + wordsOn ws q
 unfolding pushAll
 push-free b sh [] a q = let z : wordsOn [] q ≡ 0 = on-none q in omega arith
 push-free b sh (w ∷ ws) a q =
     let d = pushAll b sh ws in
-    let before = push-free b sh ws (asks-tail b sh w ws a) in
+    let before = push-free b sh ws (pre-tail b sh w ws a) in
     let low : get d (page free (pageAt w)) < 4096 = rw (before (pageAt w)) (head-room b sh w ws a) in
     by-cases (eqb (pageAt w) q)
     (λ e. let z = eqb-true (pageAt w) q e in
@@ -109,17 +109,17 @@ module _ (b₀ : List ℕ) (sh : Shape) (ws : List ℕ) where
   pub record Pushing (b : List ℕ) (i : ℕ) : Type 0 where
     pub within : i ≤ length ws
     pub long : length b ≡ length b₀
-    pub laid : b ≡ pushAll b₀ sh (drop i ws)
+    pub stacked : b ≡ pushAll b₀ sh (drop i ws)
 
   pub pushing-none : Pushing b₀ (length ws)
   unfolding pushAll
-  pushing-none = record { within = omega arith; long = refl; laid = ap (pushAll b₀ sh) (sym (drop-length ws)) }
+  pushing-none = record { within = omega arith; long = refl; stacked = ap (pushAll b₀ sh) (sym (drop-length ws)) }
 
   pub pushing-done : (b : List ℕ) (i : ℕ) → i ≡ 0 → Pushing b i → b ≡ pushAll b₀ sh ws
-  pushing-done b i h v = rw h at (v .laid)
+  pushing-done b i h v = rw h at (v .stacked)
 
 -- ---- the blocks taken
-module _ (n : ℕ) (b : List ℕ) (sh : Shape) (w : ℕ) (a : BitsAsks n b sh (w ∷ [])) where
+module _ (n : ℕ) (b : List ℕ) (sh : Shape) (w : ℕ) (a : BitsPre n b sh (w ∷ [])) where
   word-bit : hasBit n sh w ≡ true
   word-bit = and-left (hasBit n sh w) true (a .bits)
 
@@ -134,7 +134,7 @@ module _ (n : ℕ) (b : List ℕ) (sh : Shape) (w : ℕ) (a : BitsAsks n b sh (w
   unfolding hasBit
   has-index = and-right (ltb (pageAt w) n) _ word-bit
 
-  pub take-index : (q : ℕ) → q ≡ pageAt w → IndexAsks sh q w
+  pub take-index : (q : ℕ) → q ≡ pageAt w → IndexPre sh q w
   take-index q e = record { sound = a .sound; below = omega (arith, page-low, a .few); bit = rw e has-index }
 
   pub take-own : (q : ℕ) → q ≡ pageAt w → isBlock sh q w ≡ true
@@ -164,8 +164,8 @@ module _ (n : ℕ) (b₀ : List ℕ) (sh : Shape) (ws : List ℕ) where
   clearing-none = record { within = omega arith; long = refl; rest = refl }
 
   module _ (b : List ℕ) (i : ℕ) (v : Clearing b i) (l : i < length ws) where
-    pub clearing-asks : BitsAsks n b₀ sh ws → BitsAsks n b sh (getD ws i 0 ∷ [])
-    clearing-asks a = record { sound = a .sound; few = a .few; long = rw (v .long) (a .long); bits = rw (every-get (hasBit n sh) ws i (a .bits) l); blocks = rw (every-get (ownBlock sh) ws i (a .blocks) l) }
+    pub clearing-pre : BitsPre n b₀ sh ws → BitsPre n b sh (getD ws i 0 ∷ [])
+    clearing-pre a = record { sound = a .sound; few = a .few; long = rw (v .long) (a .long); bits = rw (every-get (hasBit n sh) ws i (a .bits) l); blocks = rw (every-get (ownBlock sh) ws i (a .blocks) l) }
 
     pub clearing-more : (b′ : List ℕ) → b′ ≡ put b (out (pageAt (getD ws i 0)) (indexOf sh (pageAt (getD ws i 0)) (getD ws i 0))) 0 → Clearing b′ (i + 1)
     unfolding cleared

@@ -1,5 +1,5 @@
 -- List neighbours on one page pushed together, from the list's last on.
---     run-pushed      words that lie on one page, laid on its stack with FREE written once, are pushed one by one
+--     run-pushed      words that lie on one page, pushed on its stack with FREE written once, are pushed one by one
 use Prim.Native.Nat.{ℕ, zero, suc, _+_, _-_, _^_, _≤_, _<_}
 use native.Mathlib.Omega.{arith}
 use native.Mathlib.Decide.{decLe}
@@ -21,13 +21,13 @@ use Rattle.classes.specs.declared.Shape.{Shape}
 use Rattle.fields.specs.Field.{page, slot, free, words, get, put, Has}
 use Rattle.fields.specs.Ranges.{maxPages}
 use Rattle.fields.proofs.Laws.{get-put-same, put-comm, put-put-same, put-get, length-put}
-use Rattle.pages.specs.way.Asks.{LayAsks, IndexAsks}
+use Rattle.pages.specs.way.Pre.{PushEntriesPre, IndexPre}
 use Rattle.pages.specs.Stack.{blocksFrom, indexOf, isBlock, pageAt, push}
 use Rattle.pages.proofs.Pushes.{length-push}
 use Rattle.chunks.specs.way.Match.{wordsOn}
 use Rattle.chunks.specs.way.Pass.{pushOne, pushAll}
-use Rattle.chunks.specs.way.PushAsks.{ownBlock, onPage, inReach, PushAllAsks, SpotAsks, TailAsks, TailOn, LastAsks, PushedFrom}
-use Rattle.chunks.proofs.PushLaws.{Pushing, push-length, push-free, on-here, on-other, on-more, asks-drop}
+use Rattle.chunks.specs.way.PushPre.{ownBlock, onPage, inReach, PushAllPre, EntryPre, TailPre, TailOn, LastPre, PushedFrom}
+use Rattle.chunks.proofs.PushLaws.{Pushing, push-length, push-free, on-here, on-other, on-more, pre-drop}
 
 -- ---- lists
 every-take : (t : ℕ → Bool) (n : ℕ) (xs : List ℕ) → every t xs ≡ true → every t (take n xs) ≡ true
@@ -78,11 +78,11 @@ words-parts (x ∷ xs) ys q =
     (λ e. omega (arith, on-other x (xs ++ ys) q e, on-other x xs q e, words-parts xs ys q))
 
 -- ---- on_page, tail_on
-pub spot-page : (ws : List ℕ) (i : ℕ) → SpotAsks ws i → pageAt (getD ws i 0) < 2 ^ 32
-spot-page ws i a = omega (arith, ltb-true (pageAt (getD ws i 0)) maxPages (a .reach))
+pub entry-page : (ws : List ℕ) (i : ℕ) → EntryPre ws i → pageAt (getD ws i 0) < 2 ^ 32
+entry-page ws i a = omega (arith, ltb-true (pageAt (getD ws i 0)) maxPages (a .reach))
 
-pub spot-told : (ws : List ℕ) (i q w p : ℕ) → w ≡ getD ws i 0 → p ≡ pageAt w → eqb p q ≡ onPage q (getD ws i 0)
-spot-told ws i q w p e f = rw (f, e)
+pub entry-told : (ws : List ℕ) (i q w p : ℕ) → w ≡ getD ws i 0 → p ≡ pageAt w → eqb p q ≡ onPage q (getD ws i 0)
+entry-told ws i q w p e f = rw (f, e)
 
 pub record TailInv (q : ℕ) (ws : List ℕ) (i : ℕ) : Type 0 where
   pub within : i ≤ length ws
@@ -96,8 +96,8 @@ module _ (q : ℕ) (ws : List ℕ) where
   tail-ends i v z = record { within = v .within; on = v .on; stops = λ h. absurd (omega arith) }
 
   module _ (i : ℕ) (v : TailInv q ws i) (h : i ≡ 0 → ⊥) where
-    pub tail-asks : every inReach ws ≡ true → SpotAsks ws (i - 1)
-    tail-asks e = let l : i - 1 < length ws = omega (arith, h, v .within) in record { here = l; reach = every-get inReach ws (i - 1) e l }
+    pub tail-pre : every inReach ws ≡ true → EntryPre ws (i - 1)
+    tail-pre e = let l : i - 1 < length ws = omega (arith, h, v .within) in record { here = l; reach = every-get inReach ws (i - 1) e l }
 
     module _ (u : Bool) (e : u ≡ onPage q (getD ws (i - 1) 0)) where
       pub tail-goes-on : u ≡ true → TailInv q ws (i - 1)
@@ -157,40 +157,40 @@ module _ (b : List ℕ) (sh : Shape) (q : ℕ) (there : words (q + 1) ≤ length
       ∙ ap (λ d. put d (page free q) (k + 1)) (sym c)
       ∙ rw (← before, on, top)
 
-every-reach : (b : List ℕ) (sh : Shape) (ws : List ℕ) → PushAllAsks b sh ws → every inReach ws ≡ true
+every-reach : (b : List ℕ) (sh : Shape) (ws : List ℕ) → PushAllPre b sh ws → every inReach ws ≡ true
 every-reach b sh ws a = every-made inReach ws (λ k l. lt-ltb (pageAt (getD ws k 0)) maxPages (a .below (pageAt (getD ws k 0)) (words-some ws k l)))
 
-module _ (b : List ℕ) (sh : Shape) (q : ℕ) (ws : List ℕ) (a : TailAsks b sh q ws) (t : ℕ) (e : t ≡ get b (page free q)) where
-  pub tail-lays : LayAsks b sh q t ws
-  tail-lays = record { sound = a .asks .sound; below = a .asks .below; there = a .asks .there; slots = rw e (a .asks .slots); bits = a .asks .bits }
+module _ (b : List ℕ) (sh : Shape) (q : ℕ) (ws : List ℕ) (a : TailPre b sh q ws) (t : ℕ) (e : t ≡ get b (page free q)) where
+  pub tail-stacks : PushEntriesPre b sh q t ws
+  tail-stacks = record { sound = a .pre .sound; below = a .pre .below; there = a .pre .there; slots = rw e (a .pre .slots); bits = a .pre .bits }
 
   pub free-fits : Fits w32 (t + length ws)
-  free-fits = record { fits = omega (arith, tail-lays .slots) }
+  free-fits = record { fits = omega (arith, tail-stacks .slots) }
 
   pub size-fits : Fits w32 (length ws)
-  size-fits = record { fits = omega (arith, tail-lays .slots) }
+  size-fits = record { fits = omega (arith, tail-stacks .slots) }
 
   module _ (b₁ : List ℕ) (f : b₁ ≡ push b q t (map (indexOf sh q) ws)) where
     pub free-there : Has b₁ (page free q)
-    free-there = omega (arith, a .asks .there, ap length f, length-push b q t (map (indexOf sh q) ws))
+    free-there = omega (arith, a .pre .there, ap length f, length-push b q t (map (indexOf sh q) ws))
 
     pub tail-done : (b₂ : List ℕ) → b₂ ≡ put b₁ (page free q) (t + length ws) → b₂ ≡ pushAll b sh ws
-    tail-done b₂ g = g ∙ ap (λ z. put z (page free q) (t + length ws)) f ∙ rw e (run-pushed b sh q (a .asks .there) ws (a .on) (a .asks .slots))
+    tail-done b₂ g = g ∙ ap (λ z. put z (page free q) (t + length ws)) f ∙ rw e (run-pushed b sh q (a .pre .there) ws (a .on) (a .pre .slots))
 
 -- ---- push_block
-module _ (b : List ℕ) (sh : Shape) (q w : ℕ) (a : TailAsks b sh q (w ∷ [])) where
-  pub one-index : IndexAsks sh q w
-  one-index = record { sound = a .asks .sound; below = a .asks .below; bit = and-left (ltb (indexOf sh q w) 4096) true (a .asks .bits) }
+module _ (b : List ℕ) (sh : Shape) (q w : ℕ) (a : TailPre b sh q (w ∷ [])) where
+  pub one-index : IndexPre sh q w
+  one-index = record { sound = a .pre .sound; below = a .pre .below; bit = and-left (ltb (indexOf sh q w) 4096) true (a .pre .bits) }
 
   pub one-block : isBlock sh q w ≡ true
   one-block = and-left (isBlock sh q w) true (a .blocks)
 
   module _ (t : ℕ) (e : t ≡ get b (page free q)) where
     one-room : t + 1 ≤ 4096
-    one-room = omega (arith, a .asks .slots)
+    one-room = omega (arith, a .pre .slots)
 
     pub one-slot : Has b (slot q t)
-    one-slot = omega (arith, one-room, a .asks .there)
+    one-slot = omega (arith, one-room, a .pre .there)
 
     pub one-fits : Fits w32 (t + 1)
     one-fits = record { fits = omega (arith, one-room) }
@@ -202,7 +202,7 @@ module _ (b : List ℕ) (sh : Shape) (q w : ℕ) (a : TailAsks b sh q (w ∷ [])
         rw (g, f, h, e, on)
 
 -- ---- push_last
-module _ (b : List ℕ) (sh : Shape) (ws : List ℕ) (a : LastAsks b sh ws) where
+module _ (b : List ℕ) (sh : Shape) (ws : List ℕ) (a : LastPre b sh ws) where
   pub all-reach : every inReach ws ≡ true
   all-reach = every-reach b sh ws (a .all)
 
@@ -231,9 +231,9 @@ module _ (b : List ℕ) (sh : Shape) (ws : List ℕ) (a : LastAsks b sh ws) wher
     part-is : take (length ws - k) (drop k ws) ≡ drop k ws
     part-is = take-all (length ws - k) (drop k ws) (omega (arith, length-drop k ws))
 
-    last-tail : TailAsks b sh q (drop k ws)
+    last-tail : TailPre b sh q (drop k ws)
     last-tail = record {
-      asks = record {
+      pre = record {
         sound = a .all .sound;
         below = a .all .below q on-some;
         there = a .all .there q on-some;
@@ -244,14 +244,14 @@ module _ (b : List ℕ) (sh : Shape) (ws : List ℕ) (a : LastAsks b sh ws) wher
       on = z .on;
     }
 
-    pub last-asks : TailAsks b sh q (take (length ws - k) (drop k ws))
-    last-asks = rw part-is last-tail
+    pub last-pre : TailPre b sh q (take (length ws - k) (drop k ws))
+    last-pre = rw part-is last-tail
 
     -- the last word alone
     alone-is : k ≡ length ws - 1 → drop k ws ≡ getD ws (length ws - 1) 0 ∷ []
     alone-is h = ap (λ z. drop z ws) h ∙ drop-one ws (length ws) (λ z. omega (arith, a .some)) (omega arith) ∙ ap (λ z. getD ws (length ws - 1) 0 ∷ z) (drop-length ws)
 
-    pub last-alone : k ≡ length ws - 1 → TailAsks b sh q (getD ws (length ws - 1) 0 ∷ [])
+    pub last-alone : k ≡ length ws - 1 → TailPre b sh q (getD ws (length ws - 1) 0 ∷ [])
     last-alone h = rw (← alone-is h) last-tail
 
     pub alone-done : k ≡ length ws - 1 → (b′ : List ℕ) → b′ ≡ pushAll b sh (getD ws (length ws - 1) 0 ∷ []) → PushedFrom k b′ b sh ws
@@ -273,13 +273,13 @@ module _ (b₀ : List ℕ) (sh : Shape) (ws b : List ℕ) (i : ℕ) (h : i ≡ 0
   on-parts : (q : ℕ) → wordsOn ws q ≡ wordsOn (take i ws) q + wordsOn (drop i ws) q
   on-parts q = ap (λ z. wordsOn z q) (sym (take-append-drop i ws)) ∙ words-parts (take i ws) (drop i ws) q
 
-  pub with-asks : PushAllAsks b₀ sh ws → every (ownBlock sh) ws ≡ true → LastAsks b sh (take i ws)
-  with-asks a o = record {
+  pub with-pre : PushAllPre b₀ sh ws → every (ownBlock sh) ws ≡ true → LastPre b sh (take i ws)
+  with-pre a o = record {
     all = record {
       sound = a .sound;
       below = λ q l. a .below q (omega (arith, on-parts q));
       there = λ q l. rw (v .long) (a .there q (omega (arith, on-parts q)));
-      slots = λ q l. rw (v .laid, push-free b₀ sh (drop i ws) (asks-drop b₀ sh i ws a) q) (omega (arith, a .slots q (omega (arith, on-parts q)), on-parts q));
+      slots = λ q l. rw (v .stacked, push-free b₀ sh (drop i ws) (pre-drop b₀ sh i ws a) q) (omega (arith, a .slots q (omega (arith, on-parts q)), on-parts q));
     };
     blocks = every-take (ownBlock sh) i ws o;
     some = omega (arith, first-long, h);
@@ -291,9 +291,9 @@ module _ (b₀ : List ℕ) (sh : Shape) (ws b : List ℕ) (i : ℕ) (h : i ≡ 0
       record {
         within = omega (arith, l, v .within);
         long = ap length (p .left) ∙ push-length b sh (drop r (take i ws)) ∙ v .long;
-        laid =
+        stacked =
             p .left
-            ∙ ap (λ z. pushAll z sh (drop r (take i ws))) (v .laid)
+            ∙ ap (λ z. pushAll z sh (drop r (take i ws))) (v .stacked)
             ∙ push-parts b₀ sh (drop r (take i ws)) (drop i ws)
             ∙ ap (pushAll b₀ sh) (parted r i ws l (v .within));
       }

@@ -1,7 +1,6 @@
 // A group release: the numbers in their order, each over both lists, and then the passes. A refusal leaves every word as it was.
 ghost use Rattle.calls.specs.Chunks.{releaseChunks};
-ghost use Rattle.chunks.specs.way.CallAsks.{allPlaced, settledTo, passFault, testFault, CallAsks, ListedAsks, TestAsks, PassAsks, SettleAsks, TakenBy, ChunksAnswered};
-use super::fair::chunks_fair;
+ghost use Rattle.chunks.specs.way.CallPre.{allPlaced, settledTo, passFault, testFault, CallPre, ListedPre, TestPre, PassPre, SettlePre, TakenBy, ChunksAnswered};
 use super::gives::give_chunks;
 use super::matching::MAX_CHUNKS;
 use super::matching::chunks_match;
@@ -9,6 +8,7 @@ use super::place::place_chunks;
 use super::push::push_blocks;
 use super::push::take_blocks;
 use super::quick::try_take;
+use super::valid::chunks_valid;
 use classes::Shape;
 use release::all_of_kind;
 use release::out_fault;
@@ -25,7 +25,7 @@ fn settle_chunks(
     chunks: &[u64],
     fates: &mut [u32],
 )
-    requires { ⌜ SettleAsks n (now meta) c shape host (now list) (now chunks) (now fates) ⌝ }
+    requires { ⌜ SettlePre n (now meta) c shape host (now list) (now chunks) (now fates) ⌝ }
     ensures { λ _. ⌜ ChunksAnswered 0 (now (meta .exit)) (now (fates .exit)) (settledTo (allPlaced (now (meta .entry)) c shape host (now (list .entry)) (now (chunks .entry))) shape (now (chunks .entry)) (now (fates .entry))) ⌝ }
 {
     push_blocks(meta, shape, list);
@@ -35,11 +35,11 @@ fn settle_chunks(
 
 // Numbers 11 and 13, or 0: the listed blocks are out no longer.
 fn pass_chunks(meta: &mut [u32], n: u32, c: u32, shape: Shape, list: &[u64], chunks: &[u64]) -> u32
-    requires { ⌜ PassAsks n (now meta) c shape (now list) (now chunks) ⌝ }
+    requires { ⌜ PassPre n (now meta) c shape (now list) (now chunks) ⌝ }
     ensures { λ r. ⌜ TakenBy r (now (meta .exit)) (passFault n (now (meta .entry)) c shape (now (list .entry)) (now (chunks .entry))) (now (meta .entry)) shape (now (list .entry)) ⌝ }
 {
     if chunks_match(meta, n, list, chunks) {
-        if chunks_fair(meta, n, c, shape, chunks) {
+        if chunks_valid(meta, n, c, shape, chunks) {
             take_blocks(meta, n, shape, list);
             return 0;
         }
@@ -50,7 +50,7 @@ fn pass_chunks(meta: &mut [u32], n: u32, c: u32, shape: Shape, list: &[u64], chu
 
 // Each number over the whole list, from 13 for a mark on.
 fn take_tested(meta: &mut [u32], n: u32, c: u32, shape: Shape, list: &[u64], chunks: &[u64]) -> u32
-    requires { ⌜ ListedAsks n (now meta) c shape (now list) (now chunks) ⌝ }
+    requires { ⌜ ListedPre n (now meta) c shape (now list) (now chunks) ⌝ }
     ensures { λ r. ⌜ TakenBy r (now (meta .exit)) (testFault n (now (meta .entry)) c shape (now (list .entry)) (now (chunks .entry))) (now (meta .entry)) shape (now (list .entry)) ⌝ }
 {
     let fault = out_fault(meta, n, c, shape, list);
@@ -62,7 +62,7 @@ fn take_tested(meta: &mut [u32], n: u32, c: u32, shape: Shape, list: &[u64], chu
 
 // The same, at once where that goes.
 fn take_listed(meta: &mut [u32], n: u32, c: u32, shape: Shape, list: &[u64], chunks: &[u64]) -> u32
-    requires { ⌜ ListedAsks n (now meta) c shape (now list) (now chunks) ⌝ }
+    requires { ⌜ ListedPre n (now meta) c shape (now list) (now chunks) ⌝ }
     ensures { λ r. ⌜ TakenBy r (now (meta .exit)) (testFault n (now (meta .entry)) c shape (now (list .entry)) (now (chunks .entry))) (now (meta .entry)) shape (now (list .entry)) ⌝ }
 {
     if try_take(meta, n, c, shape, list, chunks) {
@@ -82,7 +82,7 @@ fn test_chunks(
     chunks: &[u64],
     fates: &mut [u32],
 ) -> u32
-    requires { ⌜ TestAsks n (now meta) c shape (now list) (now chunks) (now fates) ⌝ }
+    requires { ⌜ TestPre n (now meta) c shape (now list) (now chunks) (now fates) ⌝ }
     ensures { λ r. ⌜ ChunksAnswered r (now (meta .exit)) (now (fates .exit)) (releaseChunks n (now (meta .entry)) c shape host (now (list .entry)) (now (chunks .entry)) (now (fates .entry))) ⌝ }
 {
     let fault = take_listed(meta, n, c, shape, list, chunks);
@@ -104,7 +104,7 @@ pub fn release_chunks(
     chunks: &[u64],
     fates: &mut [u32],
 ) -> u32
-    requires { ⌜ CallAsks n (now meta) c shape ⌝ }
+    requires { ⌜ CallPre n (now meta) c shape ⌝ }
     ensures { λ r. ⌜ ChunksAnswered r (now (meta .exit)) (now (fates .exit)) (releaseChunks n (now (meta .entry)) c shape host (now (list .entry)) (now (chunks .entry)) (now (fates .entry))) ⌝ }
 {
     if list.len() == 0 {

@@ -5,7 +5,7 @@ ghost use lib.ListN.{length, drop};
 ghost use Rattle.facts.specs.Lists.{every, below};
 ghost use Rattle.fields.specs.Field.{words};
 ghost use Rattle.chunks.specs.way.Tally.{namedBy, ofChunk, runOn, fits, tallied};
-ghost use Rattle.chunks.specs.way.TallyAsks.{CountAsks, Counted, OneAsks, FitAsks};
+ghost use Rattle.chunks.specs.way.TallyPre.{CountPre, Counted, OnePre, FitPre};
 use pages::chunk_page;
 use pages::page_at;
 use words::Word;
@@ -56,7 +56,7 @@ pub fn count_blocks(
     chunks: &[u64],
     counts: &mut [usize],
 ) -> bool
-    requires { ⌜ CountAsks n (now meta) (now chunks) (now counts) ⌝ }
+    requires { ⌜ CountPre n (now meta) (now chunks) (now counts) ⌝ }
     ensures { λ r. ⌜ Counted r (now (counts .exit)) n (now (meta .entry)) (now (list .entry)) (now (chunks .entry)) ⌝ }
 {
     let mut j = 0;
@@ -76,7 +76,7 @@ pub fn count_blocks(
 
 // Whether chunk i's count is not 0 and is the list's, and its page names it.
 fn chunk_fits(meta: &[u32], chunks: &[u64], counts: &[usize], i: usize) -> bool
-    requires { ⌜ OneAsks (now meta) (now chunks) (now counts) i ⌝ }
+    requires { ⌜ OnePre (now meta) (now chunks) (now counts) i ⌝ }
     ensures { λ r. ⌜ r ≡ fits (now (meta .entry)) (now (chunks .entry)) (now (counts .entry)) i ⌝ }
 {
     let g = chunks[i];
@@ -91,7 +91,7 @@ fn chunk_fits(meta: &[u32], chunks: &[u64], counts: &[usize], i: usize) -> bool
 }
 
 pub fn counts_fit(meta: &[u32], chunks: &[u64], counts: &[usize]) -> bool
-    requires { ⌜ FitAsks (now meta) (now chunks) (now counts) ⌝ }
+    requires { ⌜ FitPre (now meta) (now chunks) (now counts) ⌝ }
     ensures { λ r. ⌜ r ≡ every (fits (now (meta .entry)) (now (chunks .entry)) (now (counts .entry))) (below (length (now (chunks .entry)))) ⌝ }
 {
     let mut i = chunks.len();
@@ -113,8 +113,8 @@ pub fn tallies_agree(
     chunks: &[u64],
     counts: &mut [usize],
 ) -> bool
-    requires { ⌜ CountAsks n (now meta) (now chunks) (now counts) ⌝ }
-    requires { ⌜ FitAsks (now meta) (now chunks) (now counts) ⌝ }
+    requires { ⌜ CountPre n (now meta) (now chunks) (now counts) ⌝ }
+    requires { ⌜ FitPre (now meta) (now chunks) (now counts) ⌝ }
     ensures { λ r. ⌜ r ≡ tallied n (now (meta .entry)) (now (list .entry)) (now (chunks .entry)) ⌝ }
 {
     if count_blocks(meta, n, list, chunks, counts) {

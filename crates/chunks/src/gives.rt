@@ -3,7 +3,7 @@ ghost use mathlib.Core.Path.{_≡_};
 ghost use Rattle.words.specs.Word.{pageOf};
 ghost use Rattle.calls.specs.Chunks.{givesOf, giveRuns};
 ghost use Rattle.chunks.specs.way.Pass.{givesIn};
-ghost use Rattle.chunks.specs.way.GiveAsks.{GiveChunkAsks, GiveChunksAsks};
+ghost use Rattle.chunks.specs.way.GivePre.{GiveChunkPre, GiveChunksPre};
 use classes::Shape;
 use pages::chunk_page;
 use release::ARENA_FATE;
@@ -11,7 +11,7 @@ use release::RETIRED;
 
 // The chunk's page, if its fate is the arena.
 fn give_chunk(meta: &mut [u32], n: u32, pages: u32, chunk: u64, fate: u32)
-    requires { ⌜ GiveChunkAsks n (now meta) pages chunk fate ⌝ }
+    requires { ⌜ GiveChunkPre n (now meta) pages chunk fate ⌝ }
     ensures { λ _. ⌜ now (meta .exit) ≡ giveRuns (now (meta .entry)) pages (givesOf (pageOf chunk) fate) ⌝ }
 {
     if fate != RETIRED + ARENA_FATE {
@@ -21,7 +21,7 @@ fn give_chunk(meta: &mut [u32], n: u32, pages: u32, chunk: u64, fate: u32)
 }
 
 pub fn give_chunks(meta: &mut [u32], n: u32, shape: Shape, chunks: &[u64], fates: &[u32])
-    requires { ⌜ GiveChunksAsks n (now meta) shape (now chunks) (now fates) ⌝ }
+    requires { ⌜ GiveChunksPre n (now meta) shape (now chunks) (now fates) ⌝ }
     ensures { λ _. ⌜ now (meta .exit) ≡ giveRuns (now (meta .entry)) (shape .pages) (givesIn (now (chunks .entry)) (now (fates .entry))) ⌝ }
 {
     let mut i = 0;

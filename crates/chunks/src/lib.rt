@@ -2,7 +2,6 @@
 // chunk's page is made the chunk's index, so that a block finds its chunk in one step, and is set back before the answer.
 mod call;
 mod counts;
-mod fair;
 mod gives;
 mod marks;
 mod matching;
@@ -10,5 +9,6 @@ mod naming;
 mod place;
 mod push;
 mod quick;
+mod valid;
 
 pub use call::release_chunks;

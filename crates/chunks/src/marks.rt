@@ -1,8 +1,8 @@
 // The listed blocks marked, each on the page that has its granule, and the marks of the chunks' pages taken or cleared.
 ghost use mathlib.Core.Path.{_≡_};
 ghost use Rattle.facts.specs.Lists.{every};
-ghost use Rattle.chunks.specs.way.Marks.{pageReady, takePages, clearPages};
-ghost use Rattle.chunks.specs.way.MarkAsks.{OwnAsks, OwnMarked, SweepAsks, ReadyAsks};
+ghost use Rattle.chunks.specs.way.Marks.{pageClean, takePages, clearPages};
+ghost use Rattle.chunks.specs.way.MarkPre.{OwnPre, OwnMarked, SweepPre, CleanPre};
 use super::naming::is_page;
 use classes::Shape;
 use pages::chunk_page;
@@ -13,9 +13,9 @@ use release::no_marks;
 use release::take_marks;
 
 // Whether a chunk's page is a run of the class, and its first m words of marks are 0.
-fn page_ready(meta: &[u32], n: u32, c: u32, shape: Shape, m: u32, chunk: u64) -> bool
-    requires { ⌜ ReadyAsks n (now meta) c shape m ⌝ }
-    ensures { λ r. ⌜ r ≡ pageReady n (now (meta .entry)) c shape m chunk ⌝ }
+fn page_clean(meta: &[u32], n: u32, c: u32, shape: Shape, m: u32, chunk: u64) -> bool
+    requires { ⌜ CleanPre n (now meta) c shape m ⌝ }
+    ensures { λ r. ⌜ r ≡ pageClean n (now (meta .entry)) c shape m chunk ⌝ }
 {
     if is_page(n, chunk) {
         let q = chunk_page(chunk);
@@ -26,13 +26,13 @@ fn page_ready(meta: &[u32], n: u32, c: u32, shape: Shape, m: u32, chunk: u64) ->
     false
 }
 
-pub fn pages_ready(meta: &[u32], n: u32, c: u32, shape: Shape, m: u32, chunks: &[u64]) -> bool
-    requires { ⌜ ReadyAsks n (now meta) c shape m ⌝ }
-    ensures { λ r. ⌜ r ≡ every (pageReady n (now (meta .entry)) c shape m) (now (chunks .entry)) ⌝ }
+pub fn pages_clean(meta: &[u32], n: u32, c: u32, shape: Shape, m: u32, chunks: &[u64]) -> bool
+    requires { ⌜ CleanPre n (now meta) c shape m ⌝ }
+    ensures { λ r. ⌜ r ≡ every (pageClean n (now (meta .entry)) c shape m) (now (chunks .entry)) ⌝ }
 {
     let mut i = 0;
     while i < chunks.len() {
-        if page_ready(meta, n, c, shape, m, chunks[i]) {
+        if page_clean(meta, n, c, shape, m, chunks[i]) {
             i += 1;
         } else {
             return false;
@@ -43,7 +43,7 @@ pub fn pages_ready(meta: &[u32], n: u32, c: u32, shape: Shape, m: u32, chunks: &
 
 // The listed words are marked, up to the first that is not out on its page or is marked: its place. Neighbours on one page go together.
 pub fn mark_words(meta: &mut [u32], n: u32, shape: Shape, list: &[u64]) -> usize
-    requires { ⌜ OwnAsks n (now meta) shape (now list) ⌝ }
+    requires { ⌜ OwnPre n (now meta) shape (now list) ⌝ }
     ensures { λ r. ⌜ OwnMarked r (now (meta .exit)) (now (meta .entry)) shape (now (list .entry)) ⌝ }
 {
     let mut i = 0;
@@ -59,7 +59,7 @@ pub fn mark_words(meta: &mut [u32], n: u32, shape: Shape, list: &[u64]) -> usize
 
 // On every chunk's page the marked blocks are out no longer, and the marks become 0.
 pub fn take_pages(meta: &mut [u32], n: u32, m: u32, chunks: &[u64])
-    requires { ⌜ SweepAsks n (now meta) m (now chunks) ⌝ }
+    requires { ⌜ SweepPre n (now meta) m (now chunks) ⌝ }
     ensures { λ _. ⌜ now (meta .exit) ≡ takePages (now (meta .entry)) m (now (chunks .entry)) ⌝ }
 {
     let mut i = 0;
@@ -71,7 +71,7 @@ pub fn take_pages(meta: &mut [u32], n: u32, m: u32, chunks: &[u64])
 
 // The marks become 0.
 pub fn clear_pages(meta: &mut [u32], n: u32, m: u32, chunks: &[u64])
-    requires { ⌜ SweepAsks n (now meta) m (now chunks) ⌝ }
+    requires { ⌜ SweepPre n (now meta) m (now chunks) ⌝ }
     ensures { λ _. ⌜ now (meta .exit) ≡ clearPages (now (meta .entry)) m (now (chunks .entry)) ⌝ }
 {
     let mut i = 0;

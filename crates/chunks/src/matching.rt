@@ -1,8 +1,8 @@
 // The test over both lists, with room for what stood in TALLY and for the counts.
 ghost use Prim.Native.Nat.{_≤_};
 ghost use lib.ListN.{length};
-ghost use Rattle.chunks.specs.way.Match.{MatchAsks, Matched};
-ghost use Rattle.chunks.specs.way.TallyAsks.{RoomAsks};
+ghost use Rattle.chunks.specs.way.Match.{MatchPre, Matched};
+ghost use Rattle.chunks.specs.way.TallyPre.{RoomPre};
 use super::counts::tallies_agree;
 use super::naming::all_pages;
 use super::naming::name_chunks;
@@ -22,8 +22,8 @@ fn match_with(
     saved: &mut [u32],
     counts: &mut [usize],
 ) -> bool
-    requires { ⌜ MatchAsks n (now meta) (now chunks) ⌝ }
-    requires { ⌜ RoomAsks (now chunks) (now saved) (now counts) ⌝ }
+    requires { ⌜ MatchPre n (now meta) (now chunks) ⌝ }
+    requires { ⌜ RoomPre (now chunks) (now saved) (now counts) ⌝ }
     ensures { λ r. ⌜ Matched r (now (meta .exit)) n (now (meta .entry)) (now (list .entry)) (now (chunks .entry)) ⌝ }
 {
     if all_pages(n, chunks) {
@@ -37,7 +37,7 @@ fn match_with(
 }
 
 fn match_few(meta: &mut [u32], n: u32, list: &[u64], chunks: &[u64]) -> bool
-    requires { ⌜ MatchAsks n (now meta) (now chunks) ⌝ }
+    requires { ⌜ MatchPre n (now meta) (now chunks) ⌝ }
     requires { ⌜ length (now chunks) ≤ 32 ⌝ }
     ensures { λ r. ⌜ Matched r (now (meta .exit)) n (now (meta .entry)) (now (list .entry)) (now (chunks .entry)) ⌝ }
 {
@@ -47,7 +47,7 @@ fn match_few(meta: &mut [u32], n: u32, list: &[u64], chunks: &[u64]) -> bool
 }
 
 fn match_many(meta: &mut [u32], n: u32, list: &[u64], chunks: &[u64]) -> bool
-    requires { ⌜ MatchAsks n (now meta) (now chunks) ⌝ }
+    requires { ⌜ MatchPre n (now meta) (now chunks) ⌝ }
     ensures { λ r. ⌜ Matched r (now (meta .exit)) n (now (meta .entry)) (now (list .entry)) (now (chunks .entry)) ⌝ }
 {
     let mut saved: [u32; MAX_CHUNKS] = [0; MAX_CHUNKS];
@@ -56,7 +56,7 @@ fn match_many(meta: &mut [u32], n: u32, list: &[u64], chunks: &[u64]) -> bool
 }
 
 pub fn chunks_match(meta: &mut [u32], n: u32, list: &[u64], chunks: &[u64]) -> bool
-    requires { ⌜ MatchAsks n (now meta) (now chunks) ⌝ }
+    requires { ⌜ MatchPre n (now meta) (now chunks) ⌝ }
     ensures { λ r. ⌜ Matched r (now (meta .exit)) n (now (meta .entry)) (now (list .entry)) (now (chunks .entry)) ⌝ }
 {
     if chunks.len() <= FEW_CHUNKS {

@@ -4,7 +4,7 @@ ghost use lib.ListN.{length};
 ghost use Rattle.facts.specs.Lists.{every};
 ghost use Rattle.chunks.specs.way.Match.{isPage};
 ghost use Rattle.chunks.specs.way.Tally.{unnamed};
-ghost use Rattle.chunks.specs.way.TallyAsks.{NameAsks, Named};
+ghost use Rattle.chunks.specs.way.TallyPre.{NamePre, Named};
 use pages::chunk_page;
 use words::Word;
 
@@ -30,7 +30,7 @@ pub fn all_pages(n: u32, chunks: &[u64]) -> bool
 }
 
 pub fn name_chunks(meta: &mut [u32], chunks: &[u64], saved: &mut [u32])
-    requires { ⌜ NameAsks (now meta) (now chunks) (now saved) ⌝ }
+    requires { ⌜ NamePre (now meta) (now chunks) (now saved) ⌝ }
     ensures { λ _. ⌜ Named (now (meta .exit)) (now (saved .exit)) (now (meta .entry)) (now (chunks .entry)) ⌝ }
 {
     let mut i = 0;
@@ -44,7 +44,7 @@ pub fn name_chunks(meta: &mut [u32], chunks: &[u64], saved: &mut [u32])
 
 // The last named first: a page that stands twice gets back what it had before the first.
 pub fn unname_chunks(meta: &mut [u32], chunks: &[u64], saved: &[u32])
-    requires { ⌜ NameAsks (now meta) (now chunks) (now saved) ⌝ }
+    requires { ⌜ NamePre (now meta) (now chunks) (now saved) ⌝ }
     ensures { λ _. ⌜ now (meta .exit) ≡ unnamed (now (meta .entry)) (now (chunks .entry)) (now (saved .entry)) (length (now (chunks .entry))) ⌝ }
 {
     let mut i = chunks.len();

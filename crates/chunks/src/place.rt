@@ -1,10 +1,10 @@
 // Where the chunks' pages go once their blocks are back, in the chunks' order.
 ghost use mathlib.Core.Path.{_≡_};
 ghost use Rattle.calls.specs.Release.{emptied};
-ghost use Rattle.pages.specs.way.Asks.{PageAsks};
-ghost use Rattle.release.specs.way.Act.{ParkingAsks, Parked};
+ghost use Rattle.pages.specs.way.Pre.{PagePre};
+ghost use Rattle.release.specs.way.Act.{ParkingPre, Parked};
 ghost use Rattle.chunks.specs.way.Pass.{placeAt};
-ghost use Rattle.chunks.specs.way.PlaceAsks.{PlaceAsks, Placed};
+ghost use Rattle.chunks.specs.way.PlacePre.{PlacePre, Placed};
 use classes::Shape;
 use pages::chunk_page;
 use release::KEPT_FATE;
@@ -14,7 +14,7 @@ use release::relist;
 
 // A retired page is carved anew when it is used again.
 fn retire(meta: &mut [u32], q: u32)
-    requires { ⌜ PageAsks (now meta) q ⌝ }
+    requires { ⌜ PagePre (now meta) q ⌝ }
     ensures { λ _. ⌜ now (meta .exit) ≡ emptied (now (meta .entry)) q ⌝ }
 {
     fields::page::set_carved(meta, q, 0);
@@ -23,7 +23,7 @@ fn retire(meta: &mut [u32], q: u32)
 
 // A page with none out is retired and parked, which its fate tells; one with some out is a partial page.
 pub fn place_chunk(meta: &mut [u32], c: u32, shape: Shape, host: u32, q: u32) -> u32
-    requires { ⌜ ParkingAsks (now meta) c shape q ⌝ }
+    requires { ⌜ ParkingPre (now meta) c shape q ⌝ }
     ensures { λ r. ⌜ Parked r (now (meta .exit)) (placeAt (now (meta .entry)) c shape host q) ⌝ }
 {
     fields::page::set_virgin(meta, q, 0);
@@ -44,7 +44,7 @@ pub fn place_chunks(
     chunks: &[u64],
     fates: &mut [u32],
 )
-    requires { ⌜ PlaceAsks (now meta) c shape (now chunks) (now fates) ⌝ }
+    requires { ⌜ PlacePre (now meta) c shape (now chunks) (now fates) ⌝ }
     ensures { λ _. ⌜ Placed (now (meta .exit)) (now (fates .exit)) (now (meta .entry)) c shape host (now (chunks .entry)) (now (fates .entry)) ⌝ }
 {
     let mut i = 0;

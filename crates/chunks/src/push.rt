@@ -7,16 +7,16 @@ ghost use Rattle.facts.specs.Lists.{every};
 ghost use Rattle.fields.specs.Field.{out, put};
 ghost use Rattle.pages.specs.Stack.{indexOf, pageAt};
 ghost use Rattle.chunks.specs.way.Pass.{cleared, pushAll};
-ghost use Rattle.chunks.specs.way.PushAsks.{ownBlock, onPage, inReach, PushAllAsks, SpotAsks, TailAsks, TailOn, LastAsks, PushedFrom};
-ghost use Rattle.chunks.specs.way.CallAsks.{BitsAsks};
+ghost use Rattle.chunks.specs.way.PushPre.{ownBlock, onPage, inReach, PushAllPre, EntryPre, TailPre, TailOn, LastPre, PushedFrom};
+ghost use Rattle.chunks.specs.way.CallPre.{BitsPre};
 use classes::Shape;
 use lists::index_of;
-use lists::lay_blocks;
+use lists::push_entries;
 use pages::page_within;
 
 // A word's block is out no longer.
 fn take_block(meta: &mut [u32], n: u32, shape: Shape, w: u64)
-    requires { ⌜ BitsAsks n (now meta) shape (w ∷ []) ⌝ }
+    requires { ⌜ BitsPre n (now meta) shape (w ∷ []) ⌝ }
     ensures { λ _. ⌜ now (meta .exit) ≡ put (now (meta .entry)) (out (pageAt w) (indexOf shape (pageAt w) w)) 0 ⌝ }
 {
     let q = page_within(w);
@@ -24,7 +24,7 @@ fn take_block(meta: &mut [u32], n: u32, shape: Shape, w: u64)
 }
 
 pub fn take_blocks(meta: &mut [u32], n: u32, shape: Shape, list: &[u64])
-    requires { ⌜ BitsAsks n (now meta) shape (now list) ⌝ }
+    requires { ⌜ BitsPre n (now meta) shape (now list) ⌝ }
     ensures { λ _. ⌜ now (meta .exit) ≡ cleared (now (meta .entry)) shape (now (list .entry)) ⌝ }
 {
     let mut i = 0;
@@ -36,7 +36,7 @@ pub fn take_blocks(meta: &mut [u32], n: u32, shape: Shape, list: &[u64])
 
 // Whether the word at a place lies on page q.
 fn on_page(list: &[u64], i: usize, q: u32) -> bool
-    requires { ⌜ SpotAsks (now list) i ⌝ }
+    requires { ⌜ EntryPre (now list) i ⌝ }
     ensures { λ r. ⌜ r ≡ onPage q (getD (now (list .entry)) i 0) ⌝ }
 {
     page_within(list[i]) == q
@@ -60,17 +60,17 @@ fn tail_on(list: &[u64], q: u32) -> usize
 
 // The blocks of one page, with FREE written once: one by one, each push would wait for the one before.
 fn push_tail(meta: &mut [u32], shape: Shape, q: u32, list: &[u64])
-    requires { ⌜ TailAsks (now meta) shape q (now list) ⌝ }
+    requires { ⌜ TailPre (now meta) shape q (now list) ⌝ }
     ensures { λ _. ⌜ now (meta .exit) ≡ pushAll (now (meta .entry)) shape (now (list .entry)) ⌝ }
 {
     let top = fields::page::free(meta, q);
-    lay_blocks(meta, shape, q, top, list);
+    push_entries(meta, shape, q, top, list);
     fields::page::set_free(meta, q, top + list.len() as u32);
 }
 
-// One block: laid as a list of one it would take a tenth longer where the blocks of many pages are mixed.
+// One block: pushed as a list of one it would take a tenth longer where the blocks of many pages are mixed.
 fn push_block(meta: &mut [u32], shape: Shape, q: u32, w: u64)
-    requires { ⌜ TailAsks (now meta) shape q (w ∷ []) ⌝ }
+    requires { ⌜ TailPre (now meta) shape q (w ∷ []) ⌝ }
     ensures { λ _. ⌜ now (meta .exit) ≡ pushAll (now (meta .entry)) shape (w ∷ []) ⌝ }
 {
     let top = fields::page::free(meta, q);
@@ -80,7 +80,7 @@ fn push_block(meta: &mut [u32], shape: Shape, q: u32, w: u64)
 
 // The list's last word, and those on its page before it: how many are left.
 fn push_last(meta: &mut [u32], shape: Shape, list: &[u64]) -> usize
-    requires { ⌜ LastAsks (now meta) shape (now list) ⌝ }
+    requires { ⌜ LastPre (now meta) shape (now list) ⌝ }
     ensures { λ r. ⌜ PushedFrom r (now (meta .exit)) (now (meta .entry)) shape (now (list .entry)) ⌝ }
 {
     let last = list.len() - 1;
@@ -96,7 +96,7 @@ fn push_last(meta: &mut [u32], shape: Shape, list: &[u64]) -> usize
 
 // The list's last block first, so that of a page's blocks the list's first is on top.
 pub fn push_blocks(meta: &mut [u32], shape: Shape, list: &[u64])
-    requires { ⌜ PushAllAsks (now meta) shape (now list) ⌝ }
+    requires { ⌜ PushAllPre (now meta) shape (now list) ⌝ }
     requires { ⌜ every (ownBlock shape) (now list) ≡ true ⌝ }
     ensures { λ _. ⌜ now (meta .exit) ≡ pushAll (now (meta .entry)) shape (now (list .entry)) ⌝ }
 {

@@ -1,19 +1,19 @@
 // The taking of a group release's blocks in as few passes as there can be. Where there is a doubt the book is as it was.
-ghost use Rattle.chunks.specs.way.MarkAsks.{MarkedAsks, TryAsks, MatchedAsks, SetAsks, TookMarked, Tried};
-use super::fair::chunks_fair;
+ghost use Rattle.chunks.specs.way.MarkPre.{MarkedPre, TryPre, MatchedPre, SetPre, TookMarked, Tried};
 use super::marks::clear_pages;
 use super::marks::mark_words;
-use super::marks::pages_ready;
+use super::marks::pages_clean;
 use super::marks::take_pages;
 use super::matching::chunks_match;
+use super::valid::chunks_valid;
 use classes::Shape;
 
 // All listed blocks are marked: they are taken, or else the marks are.
 fn take_marked(meta: &mut [u32], n: u32, c: u32, shape: Shape, m: u32, chunks: &[u64]) -> bool
-    requires { ⌜ MarkedAsks n (now meta) c shape m (now chunks) ⌝ }
+    requires { ⌜ MarkedPre n (now meta) c shape m (now chunks) ⌝ }
     ensures { λ r. ⌜ TookMarked r (now (meta .exit)) n (now (meta .entry)) c shape m (now (chunks .entry)) ⌝ }
 {
-    if chunks_fair(meta, n, c, shape, chunks) {
+    if chunks_valid(meta, n, c, shape, chunks) {
         take_pages(meta, n, m, chunks);
         return true;
     }
@@ -31,7 +31,7 @@ fn mark_and_take(
     list: &[u64],
     chunks: &[u64],
 ) -> bool
-    requires { ⌜ SetAsks n (now meta) c shape m (now list) (now chunks) ⌝ }
+    requires { ⌜ SetPre n (now meta) c shape m (now list) (now chunks) ⌝ }
     ensures { λ r. ⌜ Tried r (now (meta .exit)) n (now (meta .entry)) c shape (now (list .entry)) (now (chunks .entry)) ⌝ }
 {
     let count = mark_words(meta, n, shape, list);
@@ -51,11 +51,11 @@ fn take_matched(
     list: &[u64],
     chunks: &[u64],
 ) -> bool
-    requires { ⌜ MatchedAsks n (now meta) c shape (now list) (now chunks) ⌝ }
+    requires { ⌜ MatchedPre n (now meta) c shape (now list) (now chunks) ⌝ }
     ensures { λ r. ⌜ Tried r (now (meta .exit)) n (now (meta .entry)) c shape (now (list .entry)) (now (chunks .entry)) ⌝ }
 {
     let m = (shape.capacity + 31) / 32;
-    if pages_ready(meta, n, c, shape, m, chunks) {
+    if pages_clean(meta, n, c, shape, m, chunks) {
         return mark_and_take(meta, n, c, shape, m, list, chunks);
     }
     false
@@ -69,7 +69,7 @@ pub fn try_take(
     list: &[u64],
     chunks: &[u64],
 ) -> bool
-    requires { ⌜ TryAsks n (now meta) c shape (now chunks) ⌝ }
+    requires { ⌜ TryPre n (now meta) c shape (now chunks) ⌝ }
     ensures { λ r. ⌜ Tried r (now (meta .exit)) n (now (meta .entry)) c shape (now (list .entry)) (now (chunks .entry)) ⌝ }
 {
     if chunks_match(meta, n, list, chunks) {

@@ -20,7 +20,7 @@ use Rattle.fields.specs.Ranges.{maxPages, lengthFault, metaFault}
 use Rattle.model.specs.Calls as Calls
 use Rattle.model.specs.Calls.{Call, names, hostIn, wayTo, wayOf}
 use Rattle.model.specs.Heap.{Heap}
-use Rattle.arena.specs.Fair.{reportFair}
+use Rattle.arena.specs.Valid.{reportValid}
 use Rattle.arena.specs.Calls.{reportCode}
 use Rattle.arena.specs.Open.{opened}
 use Rattle.direct.specs.Answer.{reportOf}
@@ -143,7 +143,7 @@ module _ (n : ℕ) (b : List ℕ) (some-pages : 1 ≤ n) (few-pages : n ≤ maxP
   past-three (Calls.growFrontier h q old new) g = rw (call-fits h g, sized)
   past-three (Calls.release h q m) g = rw (call-fits h g, sized)
   past-three (Calls.contains o k) g = rw (no-fault, sized)
-  past-three Calls.report g = rw (no-fault, sized) (by-cases (reportFair n b) (λ u. rw u) (λ u. rw u))
+  past-three Calls.report g = rw (no-fault, sized) (by-cases (reportValid n b) (λ u. rw u) (λ u. rw u))
 
   pub call-is : (x : Call) → call b x ≡ callReply n b x
   unfolding callReply wayOf

@@ -36,7 +36,7 @@ use Rattle.model.proofs.Pages.{outOf, is-out}
 use Rattle.model.proofs.Sites.{Once, GoodClass, SiteLaw, SiteLaws, Tells, outFrom, locate-law, locate-tells}
 use Rattle.pages.specs.Stack.{pageAt}
 use Rattle.refinement.proofs.OutTests.{once-here}
-use Rattle.demands.specs.Run.{Opens, next, told}
+use Rattle.demands.specs.Run.{Opens, next, observed}
 use Rattle.demands.specs.Returns.{Twice, Plain, ChunksOut, countFits, groupsFit}
 use Rattle.demands.proofs.Calls.{room}
 use Rattle.demands.proofs.Codes.{next-host, next-answer, next-unrefused, next-zero}
@@ -212,13 +212,13 @@ module _ (n : ℕ) (rows b : List ℕ) (o : Opens n rows b) (xs : List Call) (c 
     returned t = next-zero n rows b o xs x named names-it host (tests-chunks (shapeOf c) limits class h ws gs fs gives t)
 
   module _ (out : every (outHere (shapeOf c) class) ws ≡ true) where
-    counts-told : every (chunkFits (shapeOf c) class ws) gs ≡ every (countFits ws) gs
-    counts-told = counts-are (shapeOf c) (shape-sound c) class (good-class n few-pages (rulesOf rows) xs c) (once-class n few-pages (rulesOf rows) xs c) (small-paged c small) (low-site n few-pages (rulesOf rows) xs c) ws out gs
+    counts-observed : every (chunkFits (shapeOf c) class ws) gs ≡ every (countFits ws) gs
+    counts-observed = counts-are (shapeOf c) (shape-sound c) class (good-class n few-pages (rulesOf rows) xs c) (once-class n few-pages (rulesOf rows) xs c) (small-paged c small) (low-site n few-pages (rulesOf rows) xs c) ws out gs
 
-    presence-told : every (chunked (shapeOf c) class gs) ws ≡ every (λ w. elem (pageAt w) (map pageOf gs)) ws
-    presence-told = presence-is (shapeOf c) (shape-sound c) class (good-class n few-pages (rulesOf rows) xs c) (once-class n few-pages (rulesOf rows) xs c) (small-paged c small) (low-site n few-pages (rulesOf rows) xs c) ws out gs
+    presence-observed : every (chunked (shapeOf c) class gs) ws ≡ every (λ w. elem (pageAt w) (map pageOf gs)) ws
+    presence-observed = presence-is (shapeOf c) (shape-sound c) class (good-class n few-pages (rulesOf rows) xs c) (once-class n few-pages (rulesOf rows) xs c) (small-paged c small) (low-site n few-pages (rulesOf rows) xs c) ws out gs
 
-  tests-out : badHost h ≡ false → Tests (shapeOf c) limits class h ws gs fs gives → ChunksOut (told n rows b xs) c h ws gs fs
+  tests-out : badHost h ≡ false → Tests (shapeOf c) limits class h ws gs fs gives → ChunksOut (observed n rows b xs) c h ws gs fs
   tests-out host t = record {
     plain = record {
       host = ltb-false hostMax h host;
@@ -231,11 +231,11 @@ module _ (n : ℕ) (rows b : List ℕ) (o : Opens n rows b) (xs : List Call) (c 
     };
     out = all-out n rows b o xs c ws (t .out) (t .single);
     pages = t .pages;
-    counts = sym (counts-told (t .out)) ∙ t .counts;
-    present = sym (presence-told (t .out)) ∙ t .present;
+    counts = sym (counts-observed (t .out)) ∙ t .counts;
+    present = sym (presence-observed (t .out)) ∙ t .present;
   }
 
-  out-tests : ChunksOut (told n rows b xs) c h ws gs fs → Tests (shapeOf c) limits class h ws gs fs gives
+  out-tests : ChunksOut (observed n rows b xs) c h ws gs fs → Tests (shapeOf c) limits class h ws gs fs gives
   out-tests p =
       let out = out-all n rows b o xs c ws (p .out) in
       record {
@@ -248,11 +248,11 @@ module _ (n : ℕ) (rows b : List ℕ) (o : Opens n rows b) (xs : List Call) (c 
         out = out;
         single = p .out .once;
         pages = p .pages;
-        counts = counts-told out ∙ p .counts;
-        present = presence-told out ∙ p .present;
+        counts = counts-observed out ∙ p .counts;
+        present = presence-observed out ∙ p .present;
       }
 
-  pub chunks-return-of : (next n rows b xs x .code ≡ 0) ↔ ChunksOut (told n rows b xs) c h ws gs fs
+  pub chunks-return-of : (next n rows b xs x .code ≡ 0) ↔ ChunksOut (observed n rows b xs) c h ws gs fs
   chunks-return-of = (
     λ z. let host = next-host n rows b o xs x named names-it z in tests-out host (passes host z),
     λ p. returned (le-ltb hostMax h (p .plain .host)) (out-tests p),
@@ -262,39 +262,39 @@ module _ (n : ℕ) (rows b : List ℕ) (o : Opens n rows b) (xs : List Call) (c 
     abbrev class-answer : next n rows b xs x .answer ≡ classCall n (heapAfter n (rulesOf rows) xs) c (Calls.giveChunks h ws gs fs) .answer
     class-answer = next-answer n rows b o xs x named names-it (le-ltb hostMax h (p .host))
 
-    pub repeated-of : Twice (told n rows b xs) c ws → next n rows b xs x .answer ≡ Calls.refused 15
+    pub repeated-of : Twice (observed n rows b xs) c ws → next n rows b xs x .answer ≡ Calls.refused 15
     unfolding classCall interact finish
     repeated-of t =
         class-answer
         ∙ refused-fifteen (shapeOf c) limits class h ws gs fs gives (p .listed) (p .grouped) (le-ltb chunksMax (length gs) (p .few)) (le-ltb (length fs) (length gs) (p .room)) (p .kinds) (p .groupKinds) (twice-repeats n rows b o xs c ws t)
 
-    pub not-out-of : (Twice (told n rows b xs) c ws → ⊥) → (AllOut (told n rows b xs) c ws → ⊥) → next n rows b xs x .answer ≡ Calls.refused 10
+    pub not-out-of : (Twice (observed n rows b xs) c ws → ⊥) → (AllOut (observed n rows b xs) c ws → ⊥) → next n rows b xs x .answer ≡ Calls.refused 10
     unfolding classCall interact finish
     not-out-of t r =
         let u = no-twice n rows b o xs c ws t in
         class-answer
         ∙ refused-ten (shapeOf c) limits class h ws gs fs gives (p .listed) (p .grouped) (le-ltb chunksMax (length gs) (p .few)) (le-ltb (length fs) (length gs) (p .room)) (p .kinds) (p .groupKinds) u (not-all n rows b o xs c ws u r)
 
-    pub not-grouped-of : AllOut (told n rows b xs) c ws → groupsFit ws gs ≡ false → next n rows b xs x .answer ≡ Calls.refused 11
+    pub not-grouped-of : AllOut (observed n rows b xs) c ws → groupsFit ws gs ≡ false → next n rows b xs x .answer ≡ Calls.refused 11
     unfolding classCall interact finish
     not-grouped-of a e =
         let out = out-all n rows b o xs c ws a in
         class-answer
         ∙ refused-eleven (shapeOf c) limits class h ws gs fs gives (p .listed) (p .grouped) (le-ltb chunksMax (length gs) (p .few)) (le-ltb (length fs) (length gs) (p .room)) (p .kinds) (p .groupKinds)
-        (single-here (shapeOf c) class ws out (a .once)) out (rw (counts-told out, presence-told out) e)
+        (single-here (shapeOf c) class ws out (a .once)) out (rw (counts-observed out, presence-observed out) e)
 
 pub chunks-return : (n : ℕ) (rows b : List ℕ) → Opens n rows b → (xs : List Call) (c h : ℕ) (ws gs fs : List ℕ) → c < 64
-    → (next n rows b xs (Calls.releaseBinChunks c h ws gs fs) .code ≡ 0) ↔ ChunksOut (told n rows b xs) c h ws gs fs
+    → (next n rows b xs (Calls.releaseBinChunks c h ws gs fs) .code ≡ 0) ↔ ChunksOut (observed n rows b xs) c h ws gs fs
 chunks-return n rows b o xs c h ws gs fs l = chunks-return-of n rows b o xs c h ws gs fs l
 
-pub chunks-repeated : (n : ℕ) (rows b : List ℕ) → Opens n rows b → (xs : List Call) (c h : ℕ) (ws gs fs : List ℕ) → c < 64 → Plain c h ws gs fs → Twice (told n rows b xs) c ws
+pub chunks-repeated : (n : ℕ) (rows b : List ℕ) → Opens n rows b → (xs : List Call) (c h : ℕ) (ws gs fs : List ℕ) → c < 64 → Plain c h ws gs fs → Twice (observed n rows b xs) c ws
     → next n rows b xs (Calls.releaseBinChunks c h ws gs fs) .answer ≡ Calls.refused 15
 chunks-repeated n rows b o xs c h ws gs fs l = repeated-of n rows b o xs c h ws gs fs l
 
-pub chunks-not-out : (n : ℕ) (rows b : List ℕ) → Opens n rows b → (xs : List Call) (c h : ℕ) (ws gs fs : List ℕ) → c < 64 → Plain c h ws gs fs → (Twice (told n rows b xs) c ws → ⊥) → (AllOut (told n rows b xs) c ws → ⊥)
+pub chunks-not-out : (n : ℕ) (rows b : List ℕ) → Opens n rows b → (xs : List Call) (c h : ℕ) (ws gs fs : List ℕ) → c < 64 → Plain c h ws gs fs → (Twice (observed n rows b xs) c ws → ⊥) → (AllOut (observed n rows b xs) c ws → ⊥)
     → next n rows b xs (Calls.releaseBinChunks c h ws gs fs) .answer ≡ Calls.refused 10
 chunks-not-out n rows b o xs c h ws gs fs l = not-out-of n rows b o xs c h ws gs fs l
 
-pub chunks-not-grouped : (n : ℕ) (rows b : List ℕ) → Opens n rows b → (xs : List Call) (c h : ℕ) (ws gs fs : List ℕ) → c < 64 → Plain c h ws gs fs → AllOut (told n rows b xs) c ws → groupsFit ws gs ≡ false
+pub chunks-not-grouped : (n : ℕ) (rows b : List ℕ) → Opens n rows b → (xs : List Call) (c h : ℕ) (ws gs fs : List ℕ) → c < 64 → Plain c h ws gs fs → AllOut (observed n rows b xs) c ws → groupsFit ws gs ≡ false
     → next n rows b xs (Calls.releaseBinChunks c h ws gs fs) .answer ≡ Calls.refused 11
 chunks-not-grouped n rows b o xs c h ws gs fs l = not-grouped-of n rows b o xs c h ws gs fs l

@@ -1,5 +1,5 @@
 -- What a caller sees of the exported functions is the reply of `call` (specs/Contracts).
---     shows-call         of one function
+--     observes-call      of one function
 --     in-turn-replies    of calls in turn
 use Prim.Native.Nat.{ℕ, zero, suc, _+_, _≤_, _<_}
 use native.Mathlib.Omega.{arith}
@@ -23,7 +23,7 @@ use Rattle.model.specs.Heap.{answerRun, badRun}
 use Rattle.model.specs.BestFit.{Commits, from-hole, from-frontier, unusable, ungranted, exhausted}
 use Rattle.model.proofs.BestFit.{commits}
 use Rattle.arena.specs.Load.{loadArena, loadStore}
-use Rattle.arena.specs.Fair.{holeFair, holesFair, recordFair, commitFair, reportFair}
+use Rattle.arena.specs.Valid.{holeValid, holesValid, recordValid, commitValid, reportValid}
 use Rattle.arena.specs.Calls.{commitCall, commitFor}
 use Rattle.take.specs.Answer.{answerOf}
 use Rattle.release.specs.Answer.{answerAs}
@@ -36,7 +36,7 @@ use Rattle.vigbuso.specs.Blocks.{codeOut, countOut, virginOut, releaseCode, fat
 use Rattle.refinement.specs.Direct.{Reply, reply}
 use Rattle.refinement.specs.Run.{repliesFrom}
 use Rattle.demands.specs.Call.{call}
-use Rattle.demands.specs.Contracts.{runSeen, Shows, take-blocks, medium-take-blocks, release-blocks, medium-release-blocks, release-bin-chunks, commit, grow-frontier, release, contains, report, InTurn, ends, calls}
+use Rattle.demands.specs.Contracts.{runObserved, Observes, take-blocks, medium-take-blocks, release-blocks, medium-release-blocks, release-bin-chunks, commit, grow-frontier, release, contains, report, InTurn, ends, calls}
 use Rattle.demands.proofs.Calls.{room-plain}
 use Rattle.words.proofs.Answers.{eqb-digit}
 
@@ -66,7 +66,7 @@ module _ (b : List ℕ) where
   grow-read (suc k) y g₀ = rw (not-zero k)
 
   commit-read : (k : ℕ) (q : Option ℕ) (f : Bool) (q₀ f₀ : ℕ) → ((p : ℕ) → k ≡ 0 → q ≡ some p → eqb p noPage ≡ false)
-      → reply k (answerRun q f) b ≡ reply (commitCode (Runs.answerOf k q f)) (runSeen (firstOut (Runs.answerOf k q f) q₀) (freshOut (Runs.answerOf k q f) f₀)) b
+      → reply k (answerRun q f) b ≡ reply (commitCode (Runs.answerOf k q f)) (runObserved (firstOut (Runs.answerOf k q f) q₀) (freshOut (Runs.answerOf k q f) f₀)) b
   commit-read zero none f q₀ f₀ low = refl
   commit-read zero (some p) f q₀ f₀ low = rw (low p refl refl, eqb-digit)
   commit-read (suc k) q f q₀ f₀ low = rw (not-zero k)
@@ -77,19 +77,19 @@ every-at t i [] l e = absurd (omega arith)
 every-at t zero (h ∷ hs) l e = and-left (t h) _ e
 every-at t (suc i) (h ∷ hs) l e = every-at t i hs (omega arith) (and-right (t h) _ e)
 
-module _ (n : ℕ) (b : List ℕ) (fair : commitFair n b ≡ true) where
+module _ (n : ℕ) (b : List ℕ) (valid : commitValid n b ≡ true) where
   low-frontier : get b (arena frontier) ≤ n
-  unfolding commitFair recordFair
-  low-frontier = leb-true (get b (arena frontier)) n (and-left _ _ (and-right (leb (get b (arena state)) 2) _ (and-left _ _ fair)))
+  unfolding commitValid recordValid
+  low-frontier = leb-true (get b (arena frontier)) n (and-left _ _ (and-right (leb (get b (arena state)) 2) _ (and-left _ _ valid)))
 
-  fair-holes : every (holeFair (get b (arena holePages)) (get b (arena frontier))) (loadArena b .store .holes) ≡ true
-  unfolding commitFair holesFair loadArena loadStore
-  fair-holes = and-right (recordFair n b) _ fair
+  valid-holes : every (holeValid (get b (arena holePages)) (get b (arena frontier))) (loadArena b .store .holes) ≡ true
+  unfolding commitValid holesValid loadArena loadStore
+  valid-holes = and-right (recordValid n b) _ valid
 
   hole-low : (i : ℕ) → i < length (loadArena b .store .holes) → holeAt i (loadArena b .store .holes) .first ≤ n
   hole-low i l =
       let h = holeAt i (loadArena b .store .holes) in
-      let e = every-at (holeFair (get b (arena holePages)) (get b (arena frontier))) i (loadArena b .store .holes) l fair-holes in
+      let e = every-at (holeValid (get b (arena holePages)) (get b (arena frontier))) i (loadArena b .store .holes) l valid-holes in
       let z : h .first + h .pages ≤ get b (arena frontier) = leb-true (h .first + h .pages) (get b (arena frontier)) (and-right (leb 1 (h .pages)) _ (and-right (leb (h .pages) (get b (arena holePages))) _ e)) in
       omega (arith, z, low-frontier)
 
@@ -111,7 +111,7 @@ commit-low b h m p c e =
     by-cases (eqb (metaFault b) 0)
     (λ u. by-cases (badHost h) (λ v. absurd (none-some (rw (u, v) at e))) (λ v.
     by-cases (badRun m) (λ w. absurd (none-some (rw (u, v, w) at e))) (λ w.
-    by-cases (commitFair (get b (arena size)) b)
+    by-cases (commitValid (get b (arena size)) b)
     (λ x. let z : p ≤ get b (arena size) = run-low (get b (arena size)) b x (commits (get b (arena size)) h m (loadArena b)) p (rw (u, v, w, x) at e) in
     ne-eqb p noPage (λ y. omega (arith, y, z, sized b u)))
     (λ x. absurd (none-some (rw (u, v, w, x) at e))))))
@@ -122,22 +122,22 @@ unfolding call reportOn reportOf
 report-says b fs fs′ r e =
     rw (e .code, e .figures)
     (by-cases (eqb (metaFault b) 0)
-    (λ u. rw u (by-cases (reportFair (get b (arena size)) b) (λ v. rw v) (λ v. rw v)))
+    (λ u. rw u (by-cases (reportValid (get b (arena size)) b) (λ v. rw v) (λ v. rw v)))
     (λ u. rw (u, u)))
 
-pub shows-call : {b : List ℕ} {x : Call} {w : Reply} → Shows b x w → w ≡ call b x
+pub observes-call : {b : List ℕ} {x : Call} {w : Reply} → Observes b x w → w ≡ call b x
 unfolding call
-shows-call (take-blocks c h r k k′ v v′ b′ l l′ e) = rw (e .code, e .book, e .list, e .count, e .virgin) (sym (take-read _ _ _ _ _ k v))
-shows-call (medium-take-blocks c h r k k′ v v′ b′ l l′ e) = rw (e .code, e .book, e .list, e .count, e .virgin) (sym (take-read _ _ _ _ _ k v))
-shows-call (release-blocks c h r f f′ b′ ws e) = rw (e .code, e .book, e .fate) (sym (list-read _ _ _ f))
-shows-call (medium-release-blocks c h r f f′ b′ ws e) = rw (e .code, e .book, e .fate) (sym (list-read _ _ _ f))
-shows-call (release-bin-chunks c h r b′ ws gs fs fs′ e) = rw (e .code, e .book, e .fates)
-shows-call {b} (commit h m r q q′ f f′ b′ e) = rw (e .code, e .book, e .first, e .fresh) (sym (commit-read _ _ _ _ q f (commit-low b h m)))
-shows-call (grow-frontier h q old new r g g′ b′ e) = rw (e .code, e .book, e .grown) (sym (grow-read _ _ _ g))
-shows-call (release h q m r b′ e) = rw (e .code, e .book)
-shows-call (contains o k r e) = rw (e, eqb-digit)
-shows-call {b} (report r fs fs′ e) = report-says b fs fs′ r e
+observes-call (take-blocks c h r k k′ v v′ b′ l l′ e) = rw (e .code, e .book, e .list, e .count, e .virgin) (sym (take-read _ _ _ _ _ k v))
+observes-call (medium-take-blocks c h r k k′ v v′ b′ l l′ e) = rw (e .code, e .book, e .list, e .count, e .virgin) (sym (take-read _ _ _ _ _ k v))
+observes-call (release-blocks c h r f f′ b′ ws e) = rw (e .code, e .book, e .fate) (sym (list-read _ _ _ f))
+observes-call (medium-release-blocks c h r f f′ b′ ws e) = rw (e .code, e .book, e .fate) (sym (list-read _ _ _ f))
+observes-call (release-bin-chunks c h r b′ ws gs fs fs′ e) = rw (e .code, e .book, e .fates)
+observes-call {b} (commit h m r q q′ f f′ b′ e) = rw (e .code, e .book, e .first, e .fresh) (sym (commit-read _ _ _ _ q f (commit-low b h m)))
+observes-call (grow-frontier h q old new r g g′ b′ e) = rw (e .code, e .book, e .grown) (sym (grow-read _ _ _ g))
+observes-call (release h q m r b′ e) = rw (e .code, e .book)
+observes-call (contains o k r e) = rw (e, eqb-digit)
+observes-call {b} (report r fs fs′ e) = report-says b fs fs′ r e
 
 pub in-turn-replies : {b : List ℕ} {xs : List Call} {ws : List Reply} → InTurn b xs ws → ws ≡ repliesFrom call b xs
 in-turn-replies (ends b) = refl
-in-turn-replies (calls b x w xs ws s t) = ap₂ _∷_ (shows-call s) (in-turn-replies t ∙ ap (λ (v : Reply). repliesFrom call (v .book) xs) (shows-call s))
+in-turn-replies (calls b x w xs ws s t) = ap₂ _∷_ (observes-call s) (in-turn-replies t ∙ ap (λ (v : Reply). repliesFrom call (v .book) xs) (observes-call s))

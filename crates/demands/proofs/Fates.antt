@@ -19,14 +19,14 @@ use Rattle.classes.specs.way.Sound.{Sound}
 use Rattle.classes.proofs.Shapes.{shape-sound}
 use Rattle.rules.specs.declared.Limits.{Limits}
 use Rattle.rules.specs.Rules.{Rules}
-use Rattle.model.specs.declared.Spot.{Spot}
-use Rattle.model.specs.declared.Spot.the-variants.{ToEmpty, ToCold, ToArena}
+use Rattle.model.specs.declared.Destination.{Destination}
+use Rattle.model.specs.declared.Destination.the-variants.{ToEmpty, ToCold, ToArena}
 use Rattle.model.specs.Calls as Calls
 use Rattle.model.specs.Calls.{Call, Answer, fate, isRefused, names, hostIn, wayOf}
 use Rattle.model.specs.Page.{Page, isOut, noneOut, returned, carvedWords}
 use Rattle.model.specs.Class.{Class, serve}
-use Rattle.model.specs.Spot.{spotOf, fateOf, keptFate}
-use Rattle.model.specs.Release.{Site, inPartial, inFull, locate, parkIn, park, spotIn, settle, onPage, siteOfFirst, ofKind, outHere, repeats, releaseList}
+use Rattle.model.specs.Destination.{destinationOf, fateOf, keptFate}
+use Rattle.model.specs.Release.{Site, inPartial, inFull, locate, parkIn, park, destinationIn, settle, onPage, siteOfFirst, ofKind, outHere, repeats, releaseList}
 use Rattle.model.specs.Chunks.{startsAt, answer}
 use Rattle.model.specs.Heap.{Heap, step, classCall, interact, finish, offer}
 use Rattle.model.specs.History.{Event, events, heapAfter}
@@ -36,7 +36,7 @@ use Rattle.model.proofs.Counts.{count-append, elem-count, count-in, every-count
 use Rattle.model.proofs.Pages.{outOf, beginsOn, is-out, return-moves, none-out-of}
 use Rattle.model.proofs.Sites.{outs, outCount, Once, GoodClass, SiteLaw, SiteLaws, locate-law}
 use Rattle.model.proofs.Weights.{weigh}
-use Rattle.model.proofs.RunsTold.{each, block-of, block-on, two-runs}
+use Rattle.model.proofs.RunsObserved.{each, block-of, block-on, two-runs}
 use Rattle.model.proofs.Offers.{once, run-counted, out-counted, counted-out, outs-on}
 use Rattle.refinement.proofs.Found.{Located, inList, inNone, located}
 use Rattle.demands.specs.Parking.{Empties}
@@ -49,7 +49,7 @@ beside (inNone f k) = (refl, refl)
 
 -- ---- one release of a class
 module _ (sh : Shape) (ok : Sound sh) (lim : Limits) (h : ℕ) where
-  pub in-fate : (s : Class) (p : Page) (t : Spot) → parkIn sh h s p t .fate ≡ fateOf sh t
+  pub in-fate : (s : Class) (p : Page) (t : Destination) → parkIn sh h s p t .fate ≡ fateOf sh t
   in-fate s p ToEmpty = refl
   in-fate s p ToCold = refl
   in-fate s p ToArena = refl
@@ -95,10 +95,10 @@ module _ (sh : Shape) (ok : Sound sh) (lim : Limits) (h : ℕ) where
     moves : (w : ℕ) → outOf sh w (returned ws p) + count w ws ≡ outOf sh w p
     moves = return-moves sh ok ws p (f .law .page) (f .once) (λ w. every-count (λ v. isOut sh v p) w ws (f .outs))
 
-    fate-gone : noneOut sh (returned ws p) ≡ true → a ≡ fate (fateOf sh (spotOf sh lim (length (s .empty)) (length (s .cold))))
+    fate-gone : noneOut sh (returned ws p) ≡ true → a ≡ fate (fateOf sh (destinationOf sh lim (length (s .empty)) (length (s .cold))))
     unfolding settle park
     fate-gone e =
-        f .is ∙ rw e (ap fate (in-fate (f .site .without) (returned ws p) (spotIn sh lim (f .site .without)) ∙ rw (f .empty, f .cold)))
+        f .is ∙ rw e (ap fate (in-fate (f .site .without) (returned ws p) (destinationIn sh lim (f .site .without)) ∙ rw (f .empty, f .cold)))
 
     fate-stays : noneOut sh (returned ws p) ≡ false → a ≡ fate keptFate
     unfolding settle
@@ -180,7 +180,7 @@ module _ (size : ℕ) (limits : Rules) (xs : List Call) (c h : ℕ) (lim : Limit
           (block-on sh (shape-sound c) v (page .first) (block-of sh (shape-sound c) v page (f .law .page) o)) (block-on sh (shape-sound c) v q block)
           (weighed sh (shape-sound c) lim h s ws a f) (omega (arith, run-counted size limits xs c q has))
 
-      pub by-row : (Empties vs c q ws → a ≡ fate (fateOf sh (spotOf sh lim (length (s .empty)) (length (s .cold))))) × ((Empties vs c q ws → ⊥) → a ≡ fate keptFate)
+      pub by-row : (Empties vs c q ws → a ≡ fate (fateOf sh (destinationOf sh lim (length (s .empty)) (length (s .cold))))) × ((Empties vs c q ws → ⊥) → a ≡ fate keptFate)
       by-row = (
         λ k. fate-gone sh (shape-sound c) lim h s ws a f (emptied-none q same k),
         λ k. by-cases (noneOut sh (returned ws page)) (λ e. absurd (k (none-emptied q same e))) (fate-stays sh (shape-sound c) lim h s ws a f),

@@ -40,7 +40,7 @@ use Rattle.arena.specs.Load.{loadArena}
 use Rattle.demands.specs.Run.{Opens, run, bookAfter, next, recounted, recountedWith}
 use Rattle.demands.specs.Demands.{CommitFits, RunFits, unasked, nothing, given, Asks}
 use Rattle.demands.proofs.Histories.{run-represents, next-agrees}
-use Rattle.demands.proofs.Told.{recounted-is}
+use Rattle.demands.proofs.Observed.{recounted-is}
 use Rattle.demands.proofs.Codes.{next-host, next-step, next-answer, next-unrefused, next-zero}
 
 -- ---- a request stays with its class, or goes to the arena for m pages; A says that it should

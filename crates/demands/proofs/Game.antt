@@ -9,7 +9,7 @@ use Rattle.words.specs.Host.{digit}
 use Rattle.game.specs.Game.{empty, wins, badGame, played, askerWins, winsOut, GameEnds}
 use Rattle.game.specs.Forces.{Forces}
 use Rattle.game.proofs.Theorems as Theorems
-use Rattle.pages.proofs.Downs.{digit-le}
+use Rattle.pages.proofs.Descending.{digit-le}
 use Rattle.words.proofs.Answers.{eqb-digit}
 use Rattle.demands.specs.Game.{AskerWins, Game}
 

@@ -1,7 +1,7 @@
 -- Where the emptied runs of a group release go, by the fates that it answers (document 02, A.9).
---     Decides        the group returns all blocks of its page that are out exactly if the list has them all, by the history
---     counts-told    what a group adds to the two stores is told by its fate
---     groups-go      the groups in their order
+--     Decides            the group returns all blocks of its page that are out exactly if the list has them all, by the history
+--     counts-observed    what a group adds to the two stores is told by its fate
+--     groups-go          the groups in their order
 use Prim.Native.Nat.{ℕ, _+_, _<_}
 use native.Mathlib.Omega.{arith}
 use mathlib.Core.Bool.{Bool, true, false, cond, not, true≢false, false≢true}
@@ -22,14 +22,14 @@ use Rattle.classes.specs.way.Sound.{Sound}
 use Rattle.classes.proofs.Shapes.{shape-sound}
 use Rattle.rules.specs.declared.Limits.{Limits}
 use Rattle.rules.specs.Rules.{Rules}
-use Rattle.model.specs.declared.Spot.{Spot}
-use Rattle.model.specs.declared.Spot.the-variants.{ToEmpty, ToCold, ToArena}
+use Rattle.model.specs.declared.Destination.{Destination}
+use Rattle.model.specs.declared.Destination.the-variants.{ToEmpty, ToCold, ToArena}
 use Rattle.model.specs.Calls as Calls
 use Rattle.model.specs.Calls.{Call, Answer, fate, isRefused, wayOf}
 use Rattle.model.specs.Page.{Page, isMedium, isOut, noneOut, returned, retire}
 use Rattle.model.specs.Class.{Class, serve}
-use Rattle.model.specs.Spot.{fateOf, keptFate, retired}
-use Rattle.model.specs.Release.{Site, Settled, locate, spotIn, park, settle}
+use Rattle.model.specs.Destination.{fateOf, keptFate, retired}
+use Rattle.model.specs.Release.{Site, Settled, locate, destinationIn, park, settle}
 use Rattle.model.specs.Chunks.{startsAt, blocksOn, fitsOn, chunkFits, settleChunk, settleChunks, answer}
 use Rattle.model.specs.Held.{fatesIn}
 use Rattle.model.specs.Heap.{Heap, step, classCall, interact, finish, offer}
@@ -49,20 +49,20 @@ use Rattle.demands.proofs.Fates.{Freed, in-fate, beside, emptied-none, 
 
 -- ---- a group's fate, and what it tells of the stores
 module _ (sh : Shape) (small : isMedium sh ≡ false) (lim : Limits) (h : ℕ) where
-  counts-told : (e k : ℕ) (spot : Spot) (gone : Bool) (y : Settled) → Adds e k spot gone y → y .fate ≡ cond gone (retired (fateOf sh spot)) keptFate
+  counts-observed : (e k : ℕ) (destination : Destination) (gone : Bool) (y : Settled) → Adds e k destination gone y → y .fate ≡ cond gone (retired (fateOf sh destination)) keptFate
       → (length (y .class .empty) ≡ e + digit (eqb (y .fate) (retired (fateOf sh ToEmpty)))) × (length (y .class .cold) ≡ k + digit (eqb (y .fate) (retired (fateOf sh ToCold))))
-  counts-told e k spot false y a f = (a .empty ∙ rw f (omega arith), a .cold ∙ rw (f, small) (omega arith))
-  counts-told e k ToEmpty true y a f = (a .empty ∙ rw f, a .cold ∙ rw (f, small))
-  counts-told e k ToCold true y a f = (a .empty ∙ rw (f, small), a .cold ∙ rw (f, small))
-  counts-told e k ToArena true y a f = (a .empty ∙ rw f, a .cold ∙ rw (f, small))
+  counts-observed e k destination false y a f = (a .empty ∙ rw f (omega arith), a .cold ∙ rw (f, small) (omega arith))
+  counts-observed e k ToEmpty true y a f = (a .empty ∙ rw f, a .cold ∙ rw (f, small))
+  counts-observed e k ToCold true y a f = (a .empty ∙ rw (f, small), a .cold ∙ rw (f, small))
+  counts-observed e k ToArena true y a f = (a .empty ∙ rw f, a .cold ∙ rw (f, small))
 
   settle-fate : Sound sh → {t : Page → Bool} {s : Class} {x : Site} → Located t s (some x) → (ws : List ℕ)
-      → settle sh lim h true ws x .fate ≡ cond (noneOut sh (returned ws (x .page))) (retired (fateOf sh (spotIn sh lim s))) keptFate
+      → settle sh lim h true ws x .fate ≡ cond (noneOut sh (returned ws (x .page))) (retired (fateOf sh (destinationIn sh lim s))) keptFate
   unfolding settle park
   settle-fate ok {x = x} l ws =
       let k = beside l in
       by-cases (noneOut sh (returned ws (x .page)))
-      (λ e. rw e (ap retired (in-fate sh ok lim h (x .without) (retire (x .page)) (spotIn sh lim (x .without)) ∙ rw (k .0, k .1))))
+      (λ e. rw e (ap retired (in-fate sh ok lim h (x .without) (retire (x .page)) (destinationIn sh lim (x .without)) ∙ rw (k .0, k .1))))
       (λ e. rw e)
 
 -- ---- against the history
@@ -105,11 +105,11 @@ module _ (size : ℕ) (limits : Rules) (xs : List Call) (c h : ℕ) (lim : Limit
   record Awaits (t : Class) (g : ℕ) : Type 0 where
     page : Page
     found : firstOf (startsAt (pageOf g)) t ≡ some page
-    told : Decides (pageOf g) page
+    observed : Decides (pageOf g) page
 
   awaits-on : (g : ℕ) (o : Option Site) → Located (startsAt (pageOf g)) s o → SiteLaws sh s o → pageIn o ≡ firstOf (startsAt (pageOf g)) s → fitsOn sh ws g o ≡ true → Awaits s g
   awaits-on g none l law e f = absurd (false≢true f)
-  awaits-on g (some x) l law e f = record { page = x .page; found = sym e; told = decides (pageOf g) x l law }
+  awaits-on g (some x) l law e f = record { page = x .page; found = sym e; observed = decides (pageOf g) x l law }
 
   awaits : (gs : List ℕ) → every (chunkFits sh s ws) gs ≡ true → All (Awaits s) gs
   unfolding chunkFits
@@ -125,7 +125,7 @@ module _ (size : ℕ) (limits : Rules) (xs : List Call) (c h : ℕ) (lim : Limit
   awaits-next t t′ q k (g ∷ gs) e a =
       let r = a .0 in
       let ne = nor-left (eqb q (pageOf g)) (elem q (map pageOf gs)) e in
-      (record { page = r .page; found = k (pageOf g) ne ∙ r .found; told = r .told }, awaits-next t t′ q k gs (nor-right (eqb q (pageOf g)) (elem q (map pageOf gs)) e) (a .1))
+      (record { page = r .page; found = k (pageOf g) ne ∙ r .found; observed = r .observed }, awaits-next t t′ q k gs (nor-right (eqb q (pageOf g)) (elem q (map pageOf gs)) e) (a .1))
 
   abbrev Go : Class → List ℕ → List ℕ → Type 0
   Go t gs us = GroupsGo vs c lim ws (length (t .empty)) (length (t .cold)) gs us
@@ -141,9 +141,9 @@ module _ (size : ℕ) (limits : Rules) (xs : List Call) (c h : ℕ) (lim : Limit
         let y = settle sh lim h true (blocksOn sh ws (x .page)) x in
         let same : x .page ≡ a .page = Option·some-injective (x .page) (a .page) e in
         let run : x .page .first ≡ pageOf g = eqb-true (x .page .first) (pageOf g) (located-passes l) in
-        let d : Decides (pageOf g) (x .page) = subst (Decides (pageOf g)) (sym same) (a .told) in
+        let d : Decides (pageOf g) (x .page) = subst (Decides (pageOf g)) (sym same) (a .observed) in
         let f = settle-fate sh small lim h (shape-sound c) l bs in
-        let k = counts-told sh small lim h (length (t .empty)) (length (t .cold)) (spotIn sh lim t) (gone (x .page)) y (settle-adds sh lim h l bs) f in
+        let k = counts-observed sh small lim h (length (t .empty)) (length (t .cold)) (destinationIn sh lim t) (gone (x .page)) y (settle-adds sh lim h l bs) f in
         let r = rest (y .class) (awaits-next t (y .class) (pageOf g) (λ r ne. settle-skips sh lim h l bs r (ap (λ v. eqb v r) run ∙ ne)) gs new b) in (
           record { emptied = λ z. f ∙ rw (d .all z); kept = λ z. f ∙ by-cases (gone (x .page)) (λ u. absurd (z (d .only u))) (λ u. rw u) },
           subst (λ (n : ℕ). GroupsGo vs c lim ws (length (t .empty) + digit (eqb (y .fate) (retired (fateOf sh ToEmpty)))) n gs (settleChunks sh lim h ws (y .class) gs .fates)) (k .1)

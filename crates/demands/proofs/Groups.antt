@@ -67,8 +67,8 @@ module _ (n : ℕ) (rows b : List ℕ) (o : Opens n rows b) (xs : List Call) (c 
       let z = unrefused e in
       let at-home : (a : Arena) → offer n h a q ≡ given a none false = λ a. offer-home n h a (shapeOf c .pages) (chunks-home (shapeOf c) (heapAfter n (rulesOf rows) xs .rules c) (shapeOf c .pages) ⊥ (λ p. p) (heapAfter n (rulesOf rows) xs .classes c) h ws gs fs) in
       let a = next-answer n rows b o xs x d named (next-host n rows b o xs x d named z) in
-      let told : serve q none .answer ≡ Calls.fates vs = sym (a ∙ ap (λ (g : Given). serve q (g .run) .answer) (at-home (heapAfter n (rulesOf rows) xs .arena))) ∙ e in
-      let gives : serve q none .gives ≡ wentBack gs vs = Model.groups-give (shapeOf c) (heapAfter n (rulesOf rows) xs .rules c) (heapAfter n (rulesOf rows) xs .classes c) .gives h ws gs fs none ∙ rw told (past-fates gs vs) in
+      let observed : serve q none .answer ≡ Calls.fates vs = sym (a ∙ ap (λ (g : Given). serve q (g .run) .answer) (at-home (heapAfter n (rulesOf rows) xs .arena))) ∙ e in
+      let gives : serve q none .gives ≡ wentBack gs vs = Model.groups-give (shapeOf c) (heapAfter n (rulesOf rows) xs .rules c) (heapAfter n (rulesOf rows) xs .classes c) .gives h ws gs fs none ∙ rw observed (past-fates gs vs) in
       rw (at-home (loadArena (bookAfter n rows b xs)), gives) at (class-given n rows b o xs x d named z)
 
 pub groups-give : (s : Start) → Starts.Starts s → (xs : List Call) → GroupsGive s xs

@@ -27,11 +27,11 @@ use Rattle.vigbuso.specs.Direct.{growOn, releaseOn}
 use Rattle.refinement.proofs.ArenaReached.{reached-after, held-below}
 use Rattle.refinement.proofs.DirectCalls.{direct-held}
 use Rattle.demands.specs.Call.{call}
-use Rattle.demands.specs.Run.{Opens, bookAfter, next, told}
+use Rattle.demands.specs.Run.{Opens, bookAfter, next, observed}
 use Rattle.demands.specs.Demands.{Grows, grew, elsewhere, exhausted, ungranted, GrowFits}
 use Rattle.demands.proofs.Histories.{run-represents, next-agrees}
 use Rattle.demands.proofs.Codes.{zero-of, unrefused-of}
-use Rattle.demands.proofs.Told.{told-direct}
+use Rattle.demands.proofs.Observed.{observed-direct}
 
 pub grow-fits : (n h e m : ℕ) (a : Arena) → Grows n h e m a (grow n h e m a .grew)
 unfolding grow
@@ -77,15 +77,15 @@ module _ (n : ℕ) (rules : Rules) (xs : List Call) (h q old new : ℕ) (low : h
   step-stays e = rw (le-ltb hostMax h low, good, good′, lt-leb new old more, e)
 
 module _ (n : ℕ) (rows b : List ℕ) (o : Opens n rows b) (xs : List Call) where
-  tells : (x : ℕ) → directAfter (told n rows b xs) x ≡ isDirect (heapAfter n (rulesOf rows) xs .holder x)
-  tells x = told-direct n rows b o xs x ∙ conserved n (rulesOf rows) xs .direct x
+  tells : (x : ℕ) → directAfter (observed n rows b xs) x ≡ isDirect (heapAfter n (rulesOf rows) xs .holder x)
+  tells x = observed-direct n rows b o xs x ∙ conserved n (rulesOf rows) xs .direct x
 
   -- a run with a page that is not held so
-  not-held : (h q m : ℕ) → h ≤ hostMax → badRun m ≡ false → (k : ℕ) → k < m → directAfter (told n rows b xs) (q + k) ≡ false → heldDirect n (heapAfter n (rulesOf rows) xs) q m ≡ false
+  not-held : (h q m : ℕ) → h ≤ hostMax → badRun m ≡ false → (k : ℕ) → k < m → directAfter (observed n rows b xs) (q + k) ≡ false → heldDirect n (heapAfter n (rulesOf rows) xs) q m ≡ false
   not-held h q m low good k l e =
       by-cases (heldDirect n (heapAfter n (rulesOf rows) xs) q m) (λ t. absurd (false≢true (sym e ∙ tells (q + k) ∙ run-held n (rulesOf rows) xs h q m low good t k l))) (λ t. t)
 
-  pub unheld-refused : (h q m : ℕ) → h ≤ hostMax → badRun m ≡ false → (k : ℕ) → k < m → directAfter (told n rows b xs) (q + k) ≡ false → next n rows b xs (Calls.release h q m) .answer ≡ Calls.refused 12
+  pub unheld-refused : (h q m : ℕ) → h ≤ hostMax → badRun m ≡ false → (k : ℕ) → k < m → directAfter (observed n rows b xs) (q + k) ≡ false → next n rows b xs (Calls.release h q m) .answer ≡ Calls.refused 12
   unheld-refused h q m low good k l e = next-agrees n rows b o xs (Calls.release h q m) .answer ∙ step-not n (rulesOf rows) xs h q m low good (not-held h q m low good k l e)
 
   module _ (h q m : ℕ) (low : h ≤ hostMax) (good : badRun m ≡ false) where
@@ -100,7 +100,7 @@ module _ (n : ℕ) (rows b : List ℕ) (o : Opens n rows b) (xs : List Call) whe
     held-released t = zero-of (releaseOn (bookAfter n rows b xs) h q m .code) Calls.released (rw (next-agrees n rows b o xs (Calls.release h q m) .answer) (step-held n (rulesOf rows) xs h q m low good t))
 
   pub held-releases : (h q m : ℕ) → h ≤ hostMax → badRun m ≡ false
-      → (next n rows b xs (Calls.release h q m) .code ≡ 0) ↔ ((k : ℕ) → k < m → directAfter (told n rows b xs) (q + k) ≡ true)
+      → (next n rows b xs (Calls.release h q m) .code ≡ 0) ↔ ((k : ℕ) → k < m → directAfter (observed n rows b xs) (q + k) ≡ true)
   held-releases h q m low good = (
     λ e k l. tells (q + k) ∙ run-held n (rulesOf rows) xs h q m low good (released-held h q m low good e) k l,
     λ f. held-released h q m low good (held-run n (rulesOf rows) xs h q m low good (λ k l. sym (tells (q + k)) ∙ f k l)),
@@ -121,7 +121,7 @@ module _ (n : ℕ) (rows b : List ℕ) (o : Opens n rows b) (xs : List Call) whe
         let u : isRefused (step n (heapAfter n (rulesOf rows) xs) (Calls.growFrontier h q old new) .answer) ≡ false = rw (step-grows n (rulesOf rows) xs h q old new low good good′ more t) in
         zero-of (w .code) (Calls.grown (w .yes)) (rw (next-agrees n rows b o xs (Calls.growFrontier h q old new) .answer) u)
 
-    pub held-grows : (next n rows b xs (Calls.growFrontier h q old new) .code ≡ 0) ↔ ((k : ℕ) → k < old → directAfter (told n rows b xs) (q + k) ≡ true)
+    pub held-grows : (next n rows b xs (Calls.growFrontier h q old new) .code ≡ 0) ↔ ((k : ℕ) → k < old → directAfter (observed n rows b xs) (q + k) ≡ true)
     held-grows = (
       λ e k l. tells (q + k) ∙ run-held n (rulesOf rows) xs h q old low good (grown-held e) k l,
       λ f. held-grown (held-run n (rulesOf rows) xs h q old low good (λ k l. sym (tells (q + k)) ∙ f k l)),
@@ -135,5 +135,5 @@ module _ (n : ℕ) (rows b : List ℕ) (o : Opens n rows b) (xs : List Call) whe
       answer = next-agrees n rows b o xs (Calls.growFrontier h q old new) .answer ∙ step-grows n (rulesOf rows) xs h q old new low good good′ more (grown-held e);
     }
 
-    pub unheld-stays : (k : ℕ) → k < old → directAfter (told n rows b xs) (q + k) ≡ false → next n rows b xs (Calls.growFrontier h q old new) .answer ≡ Calls.refused 12
+    pub unheld-stays : (k : ℕ) → k < old → directAfter (observed n rows b xs) (q + k) ≡ false → next n rows b xs (Calls.growFrontier h q old new) .answer ≡ Calls.refused 12
     unheld-stays k l e = next-agrees n rows b o xs (Calls.growFrontier h q old new) .answer ∙ step-stays n (rulesOf rows) xs h q old new low good good′ more (not-held h q old low good k l e)

@@ -1,7 +1,7 @@
 -- A history on the words is the model's.
 --     run-is            the replies of `run` are the refinement's, from an unrefused opening on any book
 --     run-answers       its answers are the model's
---     run-fair          number 13 is never among its codes
+--     run-valid         number 13 is never among its codes
 --     run-represents    the book after it stands for the model's heap after it
 --     run-calls         each reply is the reply to the next call after the history before it
 use Prim.Native.Nat.{ℕ, _≤_}
@@ -72,8 +72,8 @@ module _ (n : ℕ) (rows b : List ℕ) (o : Opens n rows b) (xs : List Call) whe
   pub run-answers : answersIn (run n rows b xs) ≡ answers n (rulesOf rows) xs
   run-answers = ap answersIn run-is ∙ Whole.run-answers n (room n rows b o .few-pages) (rulesOf rows) fit b long xs
 
-  pub run-fair : All (λ (r : Reply). r .code ≡ 13 → ⊥) (run n rows b xs)
-  run-fair = rw run-is (Whole.run-fair n (room n rows b o .few-pages) (rulesOf rows) fit b long xs)
+  pub run-valid : All (λ (r : Reply). r .code ≡ 13 → ⊥) (run n rows b xs)
+  run-valid = rw run-is (Whole.run-valid n (room n rows b o .few-pages) (rulesOf rows) fit b long xs)
 
   pub run-represents : Represents n (bookAfter n rows b xs) (heapAfter n (rulesOf rows) xs)
   run-represents = rw book-is (Whole.run-represents n (room n rows b o .few-pages) (rulesOf rows) fit b long xs)

@@ -15,9 +15,9 @@ use Rattle.model.specs.Demands.{Figured}
 use Rattle.model.proofs.Theorems.{figured}
 use Rattle.vigbuso.specs.Direct.{reportOn, figuresIn, ReportEnds}
 use Rattle.demands.specs.Start.{Start, pages, rules, Starts, calls, bookAfter}
-use Rattle.demands.specs.Contracts as Shows
+use Rattle.demands.specs.Contracts as Observes
 use Rattle.demands.specs.Idle.{Idle}
-use Rattle.demands.proofs.Contracts.{shows-call}
+use Rattle.demands.proofs.Contracts.{observes-call}
 use Rattle.demands.proofs.Starts.{next-agrees}
 
 pub report-answer : (n : ℕ) (H : Heap) → step n H Calls.report .answer ≡ reported (figures n H)
@@ -31,14 +31,14 @@ module _ (s : Start) (o : Starts s) (xs : List Call) (r : ℕ) (fs fs′ : List 
   abbrev counted : Figures
   counted = figures (pages s) (heapAfter (pages s) (rules s) (calls s xs))
 
-  seen : cond (eqb r 0) (reported (figuresIn fs′)) (refused r) ≡ reported counted
-  seen = ap (λ w. w .answer) (shows-call (Shows.report r fs fs′ e)) ∙ next-agrees s o xs Calls.report .answer ∙ report-answer (pages s) (heapAfter (pages s) (rules s) (calls s xs))
+  observed : cond (eqb r 0) (reported (figuresIn fs′)) (refused r) ≡ reported counted
+  observed = ap (λ w. w .answer) (observes-call (Observes.report r fs fs′ e)) ∙ next-agrees s o xs Calls.report .answer ∙ report-answer (pages s) (heapAfter (pages s) (rules s) (calls s xs))
 
   pub idle : Idle s xs r fs′
   idle =
       by-cases (eqb r 0)
       (λ t. record {
         unrefused = eqb-true r 0 t;
-        figured = subst (λ f. Figured (pages s) (rules s) (calls s xs) f) (sym (same-figures (figuresIn fs′) counted (rw t at seen))) (figured (pages s) (rules s) (calls s xs));
+        figured = subst (λ f. Figured (pages s) (rules s) (calls s xs) f) (sym (same-figures (figuresIn fs′) counted (rw t at observed))) (figured (pages s) (rules s) (calls s xs));
       })
-      (λ t. absurd (false≢true (sym (ap isRefused (rw t at seen)))))
+      (λ t. absurd (false≢true (sym (ap isRefused (rw t at observed)))))

@@ -33,53 +33,53 @@ use Rattle.model.specs.Calls as Calls
 use Rattle.model.specs.Calls.{Call}
 use Rattle.model.proofs.ArenaTidy.{few-give}
 use Rattle.model.proofs.Counts.{filter-all}
-use Rattle.model.specs.Spot.{isArena, keptFate, arenaFate}
+use Rattle.model.specs.Destination.{isArena, keptFate, arenaFate}
 use Rattle.model.specs.Release.{ofKind}
 use Rattle.model.specs.Chunks.{chunksMax}
 use Rattle.arena.specs.Load.{loadArena, loadStore}
-use Rattle.arena.specs.Fair.{recordFair, commitFair, growFair, giveFair}
+use Rattle.arena.specs.Valid.{recordValid, commitValid, growValid, giveValid}
 use Rattle.model.specs.Arena as Model
 use Rattle.model.specs.Heap.{badRun, badGrowth}
-use Rattle.model.specs.declared.Spot.{Spot}
-use Rattle.model.specs.declared.Spot.the-variants.{ToEmpty, ToCold, ToArena}
+use Rattle.model.specs.declared.Destination.{Destination}
+use Rattle.model.specs.declared.Destination.the-variants.{ToEmpty, ToCold, ToArena}
 use Rattle.arena.specs.Store.{storeArena}
 use Rattle.arena.specs.Owners.{own}
 use Rattle.arena.specs.Open as Open
 use Rattle.arena.specs.Open.{headWords, opened}
 use Rattle.arena.specs.Calls.{Committed, Done, commitFor, commitCall, growCall, releaseCall, heldDirect, given}
 use Rattle.arena.proofs.Frames.{loaded-length}
-use Rattle.pages.specs.Stack.{latest, draw, hasMore, marks, pushed, back, pageAt, indexOf, isBlock, blocksFrom}
-use Rattle.pages.specs.Links.{link, unlink, stow, unstow, top, stored}
+use Rattle.pages.specs.Stack.{latest, draw, hasMore, setOuts, pushed, back, pageAt, indexOf, isBlock, blocksFrom}
+use Rattle.pages.specs.Links.{link, unlink, parkRun, popStore, top, stored}
 use Rattle.pages.specs.Carve.{outWords, newRun, bareRun}
 use Rattle.pages.specs.Runs.{nameRun}
 use Rattle.pages.specs.declared.Park.{Park}
 use Rattle.pages.specs.declared.Park.the-variants.{Empty, Cold}
-use Rattle.pages.proofs.Downs.{small, every-below}
-use Rattle.pages.proofs.Marks.{isMark, length-marks, marks-changes, marks-kept}
+use Rattle.pages.proofs.Descending.{small, every-below}
+use Rattle.pages.proofs.SetOuts.{isOutBit, length-set-outs, set-outs-changes, set-outs-kept}
 use Rattle.pages.proofs.Draws.{latest-below, draw-changes}
-use Rattle.pages.proofs.Frames.{changes-link, changes-unlink, changes-unstow, changes-stow, changes-name, changes-carve, changes-pushed}
-use Rattle.calls.specs.Take.{Took, tookNone, walk, parkFair, fillFrom, unlistSpent, filled, fromPartial, fromPark, onRun, takeNew, takeBlocks, takeCall}
-use Rattle.pages.specs.Fair.{headerFair}
+use Rattle.pages.proofs.Frames.{changes-link, changes-unlink, changes-pop-store, changes-park-run, changes-name, changes-carve, changes-pushed}
+use Rattle.calls.specs.Take.{Took, tookNone, walk, parkValid, fillFrom, unlistSpent, filled, fromPartial, fromPark, onRun, takeNew, takeBlocks, takeCall}
+use Rattle.pages.specs.Valid.{headerValid}
 use Rattle.calls.specs.Out.{startOf, outIn, inRunOf, outAt, outFault}
-use Rattle.calls.specs.Release.{Released, released, firstOf, releaseFair, giveBackAt, lastStep, releaseBlocks, pageFair, rowFair, spotFair, spotAt, parkAt, parkedIn, unlisted, relisted, emptied, leaves, placed}
-use Rattle.calls.specs.Chunks.{blocksOn, chunkFits, chunksMatch, chunksFair, releaseChunks, chunkBackAt, settleChunks, giveRuns}
+use Rattle.calls.specs.Release.{Released, released, firstOf, releaseValid, giveBackAt, lastStep, releaseBlocks, pageValid, rowValid, destinationValid, destinationAt, parkAt, parkedIn, unlisted, relisted, emptied, leaves, placed}
+use Rattle.calls.specs.Chunks.{blocksOn, chunkFits, chunksMatch, chunksValid, releaseChunks, chunkBackAt, settleChunks, giveRuns}
 use Rattle.calls.proofs.Out.{passed}
-use Rattle.take.specs.way.TakePlan.{TakeAsks, ParkedAsks, TakeRunAsks, walksFrom, woken}
+use Rattle.take.specs.way.TakePlan.{TakePre, ParkedPre, TakeRunPre, walksFrom, unparked}
 use Rattle.take.proofs.TakePages.{positive}
 use Rattle.take.proofs.Walk.{stops, walk-step}
 use Rattle.take.proofs.Fill.{turned, length-map}
-use Rattle.take.proofs.TakeParked.{woken-asks, woken-walks}
+use Rattle.take.proofs.TakeParked.{unparked-pre, unparked-walks}
 use Rattle.take.proofs.TakeGranted.{commit-granted}
-use Rattle.take.proofs.TakeSteps.{linked-asks, linked-walks}
-use Rattle.release.proofs.Spots.{arena-alone}
+use Rattle.take.proofs.TakeSteps.{linked-pre, linked-walks}
+use Rattle.release.proofs.Destinations.{arena-alone}
 use Rattle.release.proofs.OutLaws.{start-of-out}
 use Rattle.release.proofs.BackSteps.{onStack, push-changes, free-now}
 use Rattle.chunks.specs.way.Pass.{cleared, pushAll}
-use Rattle.chunks.specs.way.GiveAsks.{givesFair}
-use Rattle.chunks.specs.way.CallAsks.{PassAsks}
+use Rattle.chunks.specs.way.GivePre.{givesValid}
+use Rattle.chunks.specs.way.CallPre.{PassPre}
 use Rattle.chunks.proofs.Gather.{gathered}
 use Rattle.chunks.proofs.GatherGives.{gives-in}
-use Rattle.chunks.proofs.CallTests.{fair-pages}
+use Rattle.chunks.proofs.CallTests.{valid-pages}
 use Rattle.chunks.proofs.CallPasses.{settle-next}
 use Rattle.trace.specs.Words.{traceOn}
 use Rattle.vigbuso.specs.Faults.{callFault, classFault}
@@ -151,28 +151,28 @@ clear-clears b q (suc m) h = clears-then (clear-clears b q m (omega arith)) (put
 
 -- ---- the arena
 -- what is tested before the arena is written
-record-fits : (n : ℕ) (b : List ℕ) → recordFair n b ≡ true → get b (arena holes) ≤ 4096
-unfolding recordFair
+record-fits : (n : ℕ) (b : List ℕ) → recordValid n b ≡ true → get b (arena holes) ≤ 4096
+unfolding recordValid
 record-fits n b e =
     leb-true (get b (arena holes)) 4096 (and-left (leb (get b (arena holes)) 4096) _ (and-right (leb (get b (arena frontier)) n) _ (and-right (leb (get b (arena state)) 2) _ e)))
 
-give-fits : (n : ℕ) (b : List ℕ) (m : ℕ) → giveFair n b m ≡ true → get b (arena holes) ≤ 4096
-unfolding giveFair
-give-fits n b m e = record-fits n b (and-left (recordFair n b) _ e)
+give-fits : (n : ℕ) (b : List ℕ) (m : ℕ) → giveValid n b m ≡ true → get b (arena holes) ≤ 4096
+unfolding giveValid
+give-fits n b m e = record-fits n b (and-left (recordValid n b) _ e)
 
 loaded-few : (b : List ℕ) → get b (arena holes) ≤ 4096 → length (loadArena b .store .holes) ≤ 4096
 unfolding loadArena loadStore
 loaded-few b f = omega (arith, loaded-length b 0 (get b (arena holes)))
 
-fair-few : (n : ℕ) (b : List ℕ) → recordFair n b ≡ true → length (loadArena b .store .holes) ≤ 4096
-fair-few n b e = loaded-few b (record-fits n b e)
+valid-few : (n : ℕ) (b : List ℕ) → recordValid n b ≡ true → length (loadArena b .store .holes) ≤ 4096
+valid-few n b e = loaded-few b (record-fits n b e)
 
 module _ (n : ℕ) (b : List ℕ) where
   commit-keeps : (h m w : ℕ) → Keeps b (commitFor n b h m w .book)
-  unfolding commitFor commitFair
+  unfolding commitFor commitValid
   commit-keeps h m w =
-      by-cases (commitFair n b)
-      (λ e. rw e (step-keeps _ b _ (committed-changes n b h m (loadArena b) (fair-few n b (and-left (recordFair n b) _ e)) w)))
+      by-cases (commitValid n b)
+      (λ e. rw e (step-keeps _ b _ (committed-changes n b h m (loadArena b) (valid-few n b (and-left (recordValid n b) _ e)) w)))
       (λ e. rw e (changes-none notMark b))
 
 -- ---- the pages
@@ -213,7 +213,7 @@ module _ (n : ℕ) (few : n ≤ maxPages) (c : ℕ) (sh : Shape) (sd : Sound sh)
       (λ e. rw e (changes-none notMark b))
       (λ e.
       let q = get b (class partial c) - 1 in
-      let f = walk-step n b c sh k m (get b (class partial c)) 0 e w .fair in
+      let f = walk-step n b c sh k m (get b (class partial c)) 0 e w .valid in
       let t = turned n b hb c hc sh sd bound k m e w in
       let d = draw b sh q m in
       let low : every small (latest b sh q m) ≡ true = every-below (sh .capacity) 4096 (sd .few) (latest b sh q m) (latest-below b sh q m (leb-true _ _ (f .within)) (f .entries)) in
@@ -226,10 +226,10 @@ module _ (n : ℕ) (few : n ≤ maxPages) (c : ℕ) (sh : Shape) (sd : Sound sh)
       spent-keeps d c q hc sh = by-cases (hasMore d sh q) (λ e. rw e (changes-none notMark d)) (λ e. rw e (unlink-keeps d c q hc))
 
   module _ (l : List ℕ) where
-    filled-clears : (b : List ℕ) → TakeAsks n b c sh → walksFrom n b c sh ≡ true → Clears b (filled b c sh l .book)
+    filled-clears : (b : List ℕ) → TakePre n b c sh → walksFrom n b c sh ≡ true → Clears b (filled b c sh l .book)
     filled-clears b a w = keeps-clears (fill-keeps (lt-ltb c 76 (a .known)) (sh .batch) (sh .batch) b (le-leb (words n) (length b) (a .long)) (a .bound) w)
 
-    module _ (b : List ℕ) (a : TakeAsks n b c sh) where
+    module _ (b : List ℕ) (a : TakePre n b c sh) where
       partial-clears : Clears b (fromPartial n b c sh l .book)
       unfolding fromPartial
       partial-clears = clears-cond b (walksFrom n b c sh) (filled b c sh l) (tookNone b l 13) (filled-clears b a) (λ e. clears-none b)
@@ -240,10 +240,10 @@ module _ (n : ℕ) (few : n ≤ maxPages) (c : ℕ) (sh : Shape) (sd : Sound sh)
         park-clears k full =
             let hc = lt-ltb c 76 (a .known) in
             let q = get b (class (top k) c) - 1 in
-            let p : ParkedAsks n b c sh k = record { asks = a; alone = alone; some = positive (get b (class (top k) c)) full } in
-            clears-cond b (parkFair n b c sh k) (filled (woken b c k) c sh l) (tookNone b l 13)
-            (λ w. clears-then (keeps-clears (changes-trans notMark b (unstow b c k q) (woken b c k) (changes-unstow notMark b c q hc k refl refl) (link-keeps (unstow b c k q) c q hc)))
-            (filled-clears (woken b c k) (woken-asks n b c sh k p w) (woken-walks n b c sh k p w)))
+            let p : ParkedPre n b c sh k = record { pre = a; alone = alone; some = positive (get b (class (top k) c)) full } in
+            clears-cond b (parkValid n b c sh k) (filled (unparked b c k) c sh l) (tookNone b l 13)
+            (λ w. clears-then (keeps-clears (changes-trans notMark b (popStore b c k q) (unparked b c k) (changes-pop-store notMark b c q hc k refl refl) (link-keeps (popStore b c k q) c q hc)))
+            (filled-clears (unparked b c k) (unparked-pre n b c sh k p w) (unparked-walks n b c sh k p w)))
             (λ e. clears-none b)
 
         run-clears : (h : ℕ) (g : Option ℕ) → commitFor n b h (sh .pages) (suc c) .run ≡ g → Clears b (onRun (commitFor n b h (sh .pages) (suc c) .book) c sh l g .book)
@@ -253,9 +253,9 @@ module _ (n : ℕ) (few : n ≤ maxPages) (c : ℕ) (sh : Shape) (sd : Sound sh)
             let d = commitFor n b h (sh .pages) (suc c) .book in
             let hc = lt-ltb c 76 (a .known) in
             let g = commit-granted n b (le-leb (words n) (length b) (a .long)) (sh .pages) (suc c) h q e in
-            let r : TakeRunAsks d c sh q = record {
+            let r : TakeRunPre d c sh q = record {
               pages = n;
-              asks = record { known = a .known; shape = sd; few = few; long = rw (g .long) (a .long); bound = g .bound };
+              pre = record { known = a .known; shape = sd; few = few; long = rw (g .long) (a .long); bound = g .bound };
               alone = g .rows c hc ∙ alone;
               ends = g .ends;
               under = g .below;
@@ -264,7 +264,7 @@ module _ (n : ℕ) (few : n ≤ maxPages) (c : ℕ) (sh : Shape) (sd : Sound sh)
             clears-then (keeps-clears (commit-keeps n b h (sh .pages) (suc c)))
             (clears-then (new-clears d sh q (sd .few))
             (clears-then (keeps-clears (link-keeps (newRun d sh q) c q hc))
-            (filled-clears (link (newRun d sh q) c q) (linked-asks d c sh q r) (linked-walks d c sh q r))))
+            (filled-clears (link (newRun d sh q) c q) (linked-pre d c sh q r) (linked-walks d c sh q r))))
 
         new-run-clears : (h : ℕ) → Clears b (takeNew n b c sh h l .book)
         unfolding takeNew
@@ -276,7 +276,7 @@ module _ (n : ℕ) (few : n ≤ maxPages) (c : ℕ) (sh : Shape) (sd : Sound sh)
     unfolding takeBlocks
     blocks-clear b h known long =
         clears-cond b (ltb n (get b (arena frontier))) (tookNone b l 13) _ (λ e. clears-none b) (λ e.
-        let a : TakeAsks n b c sh = record { known = known; shape = sd; few = few; long = long; bound = ltb-false n (get b (arena frontier)) e } in
+        let a : TakePre n b c sh = record { known = known; shape = sd; few = few; long = long; bound = ltb-false n (get b (arena frontier)) e } in
         clears-cond b (not (eqb (get b (class partial c)) 0)) (fromPartial n b c sh l) _ (λ u. partial-clears b a) (λ u.
         let alone = eqb-true (get b (class partial c)) 0 (not-false _ u) in
         clears-cond b (not (eqb (get b (class empty c)) 0)) (fromPark n b c sh Empty l) _ (λ v. park-clears b a alone Empty (eqb-false (get b (class empty c)) 0 (not-true _ v))) (λ v.
@@ -333,17 +333,17 @@ module _ (t : Field → Bool) (c q : ℕ) (hc : ltb c 76 ≡ true) (ls : Lets t 
       (λ e. rw e (changes-unlink t b c q hc (λ z. ls .rows partial) (λ z d. ls .nexts z) (λ z d. ls .prevs z) (ls .nexts q) (ls .prevs q) (ls .listed)))
       (λ e. rw e (changes-none t b))
 
-  stows : (b : List ℕ) (k : Park) → Changes t b (stow b c k q)
-  stows b k = changes-stow t b c q hc k (ls .rows (top k)) (ls .rows (stored k)) (ls .nexts q)
+  parks : (b : List ℕ) (k : Park) → Changes t b (parkRun b c k q)
+  parks b k = changes-park-run t b c q hc k (ls .rows (top k)) (ls .rows (stored k)) (ls .nexts q)
 
-  in-changes : (b : List ℕ) (s : Spot) → Changes t b (parkedIn b c sh h q s)
-  in-changes b ToEmpty = stows b Empty
-  in-changes b ToCold = changes-trans t b _ _ (changes-carve t b q (ls .free) (ls .virgin) (ls .slots) sh _ (ls .carved) few) (stows _ Cold)
+  in-changes : (b : List ℕ) (s : Destination) → Changes t b (parkedIn b c sh h q s)
+  in-changes b ToEmpty = parks b Empty
+  in-changes b ToCold = changes-trans t b _ _ (changes-carve t b q (ls .free) (ls .virgin) (ls .slots) sh _ (ls .carved) few) (parks _ Cold)
   in-changes b ToArena = changes-none t b
 
   park-changes : (b : List ℕ) → Changes t b (parkAt b c sh h q .book)
   unfolding parkAt
-  park-changes b = changes-trans t b (unlisted b c q) _ (unlist-changes b) (in-changes (unlisted b c q) (spotAt b c sh))
+  park-changes b = changes-trans t b (unlisted b c q) _ (unlist-changes b) (in-changes (unlisted b c q) (destinationAt b c sh))
 
   empty-changes : (b : List ℕ) → Changes t b (emptied b q)
   unfolding emptied
@@ -359,8 +359,8 @@ module _ (t : Field → Bool) (c q : ℕ) (hc : ltb c 76 ≡ true) (ls : Lets t 
   back-changes : (b is : List ℕ) → every small is ≡ true → get b (page Fields.free q) + length is ≤ 4096 → Changes t b (back b q is)
   unfolding back
   back-changes b is s l =
-      changes-trans t b (marks b q 0 is) _ (marks-changes b q 0 t (ls .outs) is s)
-      (changes-pushed t (marks b q 0 is) q (ls .free) (ls .virgin) (ls .slots) is (rw (marks-kept b q 0 is s (page Fields.free q) refl refl) l))
+      changes-trans t b (setOuts b q 0 is) _ (set-outs-changes b q 0 t (ls .outs) is s)
+      (changes-pushed t (setOuts b q 0 is) q (ls .free) (ls .virgin) (ls .slots) is (rw (set-outs-kept b q 0 is s (page Fields.free q) refl refl) l))
 
   returns : (r : Bool) (b is : List ℕ) → every small is ≡ true → get b (page Fields.free q) + length is ≤ 4096 → Changes t b (placed r (back b q is) c sh h q .book)
   returns r b is s l = changes-trans t b (back b q is) _ (back-changes b is s l) (place-changes r (back b q is))
@@ -407,8 +407,8 @@ module _ (n : ℕ) where
   runs-stay b hb f m (q ∷ qs) = let s = given-stays b hb f q m in stays-then s (runs-stay (given b q m) (rw (s .keeps .long) hb) (s .fits) m qs)
 
   -- where there are runs to give, the record was tested
-  runs-keep : (b : List ℕ) → leb (words n) (length b) ≡ true → (m : ℕ) → m ≡ 1 → (qs : List ℕ) → givesFair n b (length qs * m) ≡ true → Keeps b (giveRuns b m qs)
-  unfolding givesFair
+  runs-keep : (b : List ℕ) → leb (words n) (length b) ≡ true → (m : ℕ) → m ≡ 1 → (qs : List ℕ) → givesValid n b (length qs * m) ≡ true → Keeps b (giveRuns b m qs)
+  unfolding givesValid
   runs-keep b hb m one [] f = changes-none notMark b
   runs-keep b hb m one (q ∷ qs) f =
       let some : eqb (suc (length qs) * m) 0 ≡ false = ne-eqb (suc (length qs) * m) 0 (λ e. let z : suc (length qs) * 1 ≡ 0 = rw one at e in omega arith) in
@@ -476,10 +476,10 @@ module _ (n : ℕ) (b : List ℕ) (c : ℕ) (sh : Shape) (few : sh .capacity ≤
       let o = and-left (outAt n b c sh w) _ e in
       rw (and-left (isBlock sh (startOf b w) w) _ (and-right (inRunOf n b sh c w) _ o)) (all-fine ws (and-right (outAt n b c sh w) _ e))
 
-  page-roomy : (m q : ℕ) → pageFair b sh m q ≡ true → get b (page Fields.free q) + m ≤ 4096
-  unfolding pageFair headerFair
+  page-roomy : (m q : ℕ) → pageValid b sh m q ≡ true → get b (page Fields.free q) + m ≤ 4096
+  unfolding pageValid headerValid
   page-roomy m q e =
-      let p = and-left (headerFair b sh m q) _ e in
+      let p = and-left (headerValid b sh m q) _ e in
       let r = and-right (leb (get b (page Fields.carved q)) (sh .capacity)) _ p in
       omega (arith, leb-true (get b (page Fields.carved q)) (sh .capacity) (and-left _ _ p), leb-true (get b (page Fields.free q) + m) (get b (page Fields.carved q)) (and-left _ _ r))
 
@@ -496,35 +496,35 @@ module _ (n : ℕ) (small-arena : n ≤ maxPages) (b : List ℕ) (hb : leb (word
   first-low (w ∷ ws) e o = start-of-out n c sh sd b w (and-left (outAt n b c sh w) _ o)
 
   -- a run that goes to the arena is one for which the record was tested
-  given-fits : (q : ℕ) (is : List ℕ) → q < n → every small is ≡ true → get b (page Fields.free q) + length is ≤ 4096 → (m : ℕ) → length is ≡ m → releaseFair n b c sh m q ≡ true
+  given-fits : (q : ℕ) (is : List ℕ) → q < n → every small is ≡ true → get b (page Fields.free q) + length is ≤ 4096 → (m : ℕ) → length is ≡ m → releaseValid n b c sh m q ≡ true
       → placed false (back b q is) c sh h q .fate ≡ arenaFate → get b (arena holes) ≤ 4096
-  unfolding releaseFair spotFair parkAt back
-  given-fits q is low s l m k f e = by (pushed (marks b q 0 is) q is) refl _ refl e
+  unfolding releaseValid destinationValid parkAt back
+  given-fits q is low s l m k f e = by (pushed (setOuts b q 0 is) q is) refl _ refl e
     where
-      free-was : get (marks b q 0 is) (page Fields.free q) ≡ get b (page Fields.free q)
-      free-was = marks-kept b q 0 is s (page Fields.free q) refl refl
+      free-was : get (setOuts b q 0 is) (page Fields.free q) ≡ get b (page Fields.free q)
+      free-was = set-outs-kept b q 0 is s (page Fields.free q) refl refl
 
-      room : get (marks b q 0 is) (page Fields.free q) + length is ≤ 4096
+      room : get (setOuts b q 0 is) (page Fields.free q) + length is ≤ 4096
       room = rw free-was l
 
-      same : (g : Field) → ok g ≡ true → isMark g ≡ false → onStack g ≡ false → get (pushed (marks b q 0 is) q is) g ≡ get b g
-      same g o u v = push-changes (marks b q 0 is) q is room .kept g o v ∙ marks-kept b q 0 is s g o u
+      same : (g : Field) → ok g ≡ true → isOutBit g ≡ false → onStack g ≡ false → get (pushed (setOuts b q 0 is) q is) g ≡ get b g
+      same g o u v = push-changes (setOuts b q 0 is) q is room .kept g o v ∙ set-outs-kept b q 0 is s g o u
 
-      spot : spotAt (pushed (marks b q 0 is) q is) c sh ≡ spotAt b c sh
-      spot = rw (same (class Fields.emptyCount c) hc refl refl, same (class Fields.coldCount c) hc refl refl, same (class Fields.emptyLimit c) hc refl refl, same (class Fields.coldLimit c) hc refl refl)
+      destination : destinationAt (pushed (setOuts b q 0 is) q is) c sh ≡ destinationAt b c sh
+      destination = rw (same (class Fields.emptyCount c) hc refl refl, same (class Fields.coldCount c) hc refl refl, same (class Fields.emptyLimit c) hc refl refl, same (class Fields.coldLimit c) hc refl refl)
 
-      free-is : get (pushed (marks b q 0 is) q is) (page Fields.free q) ≡ get b (page Fields.free q) + length is
-      free-is = free-now (marks b q 0 is) q is room (omega (arith, length-marks b q 0 is, leb-true (words n) (length b) hb)) ∙ ap (λ x. x + length is) free-was
+      free-is : get (pushed (setOuts b q 0 is) q is) (page Fields.free q) ≡ get b (page Fields.free q) + length is
+      free-is = free-now (setOuts b q 0 is) q is room (omega (arith, length-set-outs b q 0 is, leb-true (words n) (length b) hb)) ∙ ap (λ x. x + length is) free-was
 
-      by : (d : List ℕ) → d ≡ pushed (marks b q 0 is) q is → (t : Bool) → eqb (get d (page Fields.carved q)) (get d (page Fields.free q)) ≡ t
+      by : (d : List ℕ) → d ≡ pushed (setOuts b q 0 is) q is → (t : Bool) → eqb (get d (page Fields.carved q)) (get d (page Fields.free q)) ≡ t
           → cond t (parkAt d c sh h q) (released (relisted d c q) keptFate) .fate ≡ arenaFate → get b (arena holes) ≤ 4096
       by d z true x y =
           let u : get d (page Fields.free q) ≡ get b (page Fields.free q) + length is = rw z free-is in
           let v : get d (page Fields.carved q) ≡ get b (page Fields.carved q) = rw z (same (page Fields.carved q) refl refl refl) in
-          let w : spotAt d c sh ≡ spotAt b c sh = rw z spot in
-          let g : isArena (spotAt b c sh) ≡ true = ap isArena (sym w) ∙ arena-alone sh (spotAt d c sh) y in
+          let w : destinationAt d c sh ≡ destinationAt b c sh = rw z destination in
+          let g : isArena (destinationAt b c sh) ≡ true = ap isArena (sym w) ∙ arena-alone sh (destinationAt d c sh) y in
           let a : eqb (get b (page Fields.free q) + m) (get b (page Fields.carved q)) ≡ true = eq-eqb (get b (page Fields.free q) + m) (get b (page Fields.carved q)) (omega (arith, eqb-true (get d (page Fields.carved q)) (get d (page Fields.free q)) x)) in
-          give-fits n b (sh .pages) (rw (a, g) at (and-right (rowFair b c) _ (and-right (pageFair b sh m q) _ (and-right (leb (get b (arena frontier)) n) _ f))))
+          give-fits n b (sh .pages) (rw (a, g) at (and-right (rowValid b c) _ (and-right (pageValid b sh m q) _ (and-right (leb (get b (arena frontier)) n) _ f))))
       by d z false x y = absurd (omega (arith, y))
 
   last-keeps : (q : ℕ) (r : Released) → Changes inPages b (r .book) → (r .fate ≡ arenaFate → get b (arena holes) ≤ 4096) → Keeps b (lastStep sh q r .book)
@@ -535,7 +535,7 @@ module _ (n : ℕ) (small-arena : n ≤ maxPages) (b : List ℕ) (hb : leb (word
       (λ e. rw e (pages-keep b (r .book) k))
 
   list-keeps : (ws : List ℕ) → Keeps b (releaseBlocks n b c sh h ws .book)
-  unfolding releaseBlocks releaseFair giveBackAt
+  unfolding releaseBlocks releaseValid giveBackAt
   list-keeps ws =
       let q = q-of ws in
       let is = map (indexOf sh q) ws in
@@ -543,11 +543,11 @@ module _ (n : ℕ) (small-arena : n ≤ maxPages) (b : List ℕ) (hb : leb (word
       by-cases (every (ofKind (sh .kind)) ws) (λ e₂.
       by-cases (eqb (outFault n b c sh ws) 0) (λ e₃.
       by-cases (every (λ w. eqb (startOf b w) (q-of ws)) ws) (λ e₄.
-      by-cases (releaseFair n b c sh (length ws) (q-of ws)) (λ e₅.
+      by-cases (releaseValid n b c sh (length ws) (q-of ws)) (λ e₅.
       let outs = passed n b c sh ws (eqb-true (outFault n b c sh ws) 0 e₃) .out in
       let fine = all-fine n b c sh few ws outs in
       let s : every small (map (indexOf sh (q-of ws)) ws) ≡ true = rw (filter-all (λ w. eqb (startOf b w) (q-of ws)) ws e₄) at (on-small c hc sh few h ws b fine b (λ x. refl) (q-of ws) ws fine) in
-      let l : get b (page Fields.free (q-of ws)) + length (map (indexOf sh (q-of ws)) ws) ≤ 4096 = omega (arith, length-map (indexOf sh q) ws, page-roomy n b c sh few (length ws) q (and-left (pageFair b sh (length ws) q) _ (and-right (leb (get b (arena frontier)) n) _ e₅))) in
+      let l : get b (page Fields.free (q-of ws)) + length (map (indexOf sh (q-of ws)) ws) ≤ 4096 = omega (arith, length-map (indexOf sh q) ws, page-roomy n b c sh few (length ws) q (and-left (pageValid b sh (length ws) q) _ (and-right (leb (get b (arena frontier)) n) _ e₅))) in
       rw (e₁, e₂, e₃, e₄, e₅) (last-keeps q (placed false (back b q is) c sh h q) (returns inPages c q hc (lets-pages c q) sh few h false b is s l)
       (given-fits q is (first-low ws e₁ outs) s l (length ws) (length-map (indexOf sh q) ws) e₅)))
       (λ e₅. rw (e₁, e₂, e₃, e₄, e₅) (changes-none notMark b)))
@@ -555,48 +555,48 @@ module _ (n : ℕ) (small-arena : n ≤ maxPages) (b : List ℕ) (hb : leb (word
       (λ e₃. rw (e₁, e₂, e₃) (changes-none notMark b)))
       (λ e₂. rw (e₁, e₂) (changes-none notMark b))
 
-  all-roomy : (ws gs : List ℕ) (fine : every (blocks-fine sh b) ws ≡ true) → every (chunkFits b ws) gs ≡ true → every (λ g. pageFair b sh (countOf g) (pageOf g)) gs ≡ true → All (Roomy c hc sh few h ws b fine) gs
+  all-roomy : (ws gs : List ℕ) (fine : every (blocks-fine sh b) ws ≡ true) → every (chunkFits b ws) gs ≡ true → every (λ g. pageValid b sh (countOf g) (pageOf g)) gs ≡ true → All (Roomy c hc sh few h ws b fine) gs
   unfolding chunkFits
   all-roomy ws [] fine e f = tt
   all-roomy ws (g ∷ gs) fine e f =
       let q = pageOf g in
       let m = eqb-true (countOf g) (length (blocksOn b ws q)) (and-right (not (eqb (countOf g) 0)) _ (and-left (chunkFits b ws g) _ e)) in
-      (omega (arith, page-roomy n b c sh few (countOf g) q (and-left (pageFair b sh (countOf g) q) _ f)), all-roomy ws gs fine (and-right (chunkFits b ws g) _ e) (and-right (pageFair b sh (countOf g) q) _ f))
+      (omega (arith, page-roomy n b c sh few (countOf g) q (and-left (pageValid b sh (countOf g) q) _ f)), all-roomy ws gs fine (and-right (chunkFits b ws g) _ e) (and-right (pageValid b sh (countOf g) q) _ f))
 
   all-frees : (ws gs : List ℕ) (fine : every (blocks-fine sh b) ws ≡ true) → All (Frees c hc sh few h ws b fine b) gs
   all-frees ws [] fine = tt
   all-frees ws (g ∷ gs) fine = (refl, all-frees ws gs fine)
 
   -- the runs that go to the arena are those for which the record was tested (crate chunks)
-  gives-tested : sh .pages ≡ 1 → (ws gs fs : List ℕ) → (ltb chunksMax (length gs) || ltb (length fs) (length gs)) ≡ false → every (outAt n b c sh) ws ≡ true → chunksMatch b ws gs ≡ true → chunksFair n b c sh gs ≡ true
-      → (let s = settleChunks b c sh h ws gs in givesFair n (s .book) (length (s .gives) * sh .pages) ≡ true)
+  gives-tested : sh .pages ≡ 1 → (ws gs fs : List ℕ) → (ltb chunksMax (length gs) || ltb (length fs) (length gs)) ≡ false → every (outAt n b c sh) ws ≡ true → chunksMatch b ws gs ≡ true → chunksValid n b c sh gs ≡ true
+      → (let s = settleChunks b c sh h ws gs in givesValid n (s .book) (length (s .gives) * sh .pages) ≡ true)
   gives-tested one ws gs fs e o m f =
-      let a : PassAsks n b c sh ws gs = record {
+      let a : PassPre n b c sh ws gs = record {
         call = record { class = record { known = ltb-true c 76 hc; sound = sd; few = small-arena; long = leb-true (words n) (length b) hb }; single = one };
         out = o;
         chunks = ltb-false chunksMax (length gs) (nor-left (ltb chunksMax (length gs)) _ e);
       } in
-      let g = settle-next n b c sh ws gs a m f fs (ltb-false (length fs) (length gs) (nor-right (ltb chunksMax (length gs)) _ e)) h .giving .fair in
+      let g = settle-next n b c sh ws gs a m f fs (ltb-false (length fs) (length gs) (nor-right (ltb chunksMax (length gs)) _ e)) h .giving .valid in
       let z = gives-in c hc sh sd h (pushAll (cleared b sh ws) sh ws) gs (drop (length gs) fs) in
-      let p = gathered n b c sh ws sd one hb o h gs hc m (fair-pages n b c sh gs f) in
+      let p = gathered n b c sh ws sd one hb o h gs hc m (valid-pages n b c sh gs f) in
       rw (← z, p) at g
 
   chunks-keep : sh .pages ≡ 1 → (ws gs fs : List ℕ) → Keeps b (releaseChunks n b c sh h ws gs fs .book)
-  unfolding releaseChunks chunksMatch chunksFair
+  unfolding releaseChunks chunksMatch chunksValid
   chunks-keep one ws gs fs =
       by-cases (isNil ws || isNil gs) (λ e. rw e (changes-none notMark b)) λ e₁.
       by-cases (ltb chunksMax (length gs) || ltb (length fs) (length gs)) (λ e. rw (e₁, e) (changes-none notMark b)) λ e₂.
       by-cases (every (ofKind (sh .kind)) ws && every (ofKind chunkKind) gs) (λ e₃.
       by-cases (eqb (outFault n b c sh ws) 0) (λ e₄.
       by-cases (chunksMatch b ws gs) (λ e₅.
-      by-cases (chunksFair n b c sh gs) (λ e₆.
+      by-cases (chunksValid n b c sh gs) (λ e₆.
       let outs = passed n b c sh ws (eqb-true (outFault n b c sh ws) 0 e₄) .out in
       let fine = all-fine n b c sh few ws outs in
       let u = and-left (distinct (map pageOf gs)) _ e₅ in
       let fits = and-left (every (chunkFits b ws) gs) _ (and-right (distinct (map pageOf gs)) _ e₅) in
-      let fair = and-left (every (λ g. pageFair b sh (countOf g) (pageOf g)) gs) _ (and-right (leb (get b (arena frontier)) n) _ e₆) in
+      let valid = and-left (every (λ g. pageValid b sh (countOf g) (pageOf g)) gs) _ (and-right (leb (get b (arena frontier)) n) _ e₆) in
       let s = settleChunks b c sh h ws gs in
-      let k = settle-changes c hc sh few h ws b fine gs b (λ x. refl) u (all-roomy ws gs fine fits fair) (all-frees ws gs fine) in
+      let k = settle-changes c hc sh few h ws b fine gs b (λ x. refl) u (all-roomy ws gs fine fits valid) (all-frees ws gs fine) in
       rw (e₁, e₂, e₃, e₄, e₅, e₆)
       (changes-trans notMark b (s .book) _ (pages-keep b (s .book) k) (runs-keep n (s .book) (rw (k .long) hb) (sh .pages) one (s .gives) (gives-tested one ws gs fs e₂ outs e₅ e₆))))
       (λ e₆. rw (e₁, e₂, e₃, e₄, e₅, e₆) (changes-none notMark b)))
@@ -607,22 +607,22 @@ module _ (n : ℕ) (small-arena : n ≤ maxPages) (b : List ℕ) (hb : leb (word
 -- ---- the direct calls
 module _ (n : ℕ) (b : List ℕ) where
   grow-keeps : (h q old new : ℕ) → Keeps b (growCall n b h q old new .book)
-  unfolding growCall growFair
+  unfolding growCall growValid
   grow-keeps h q old new =
       by-cases (badGrowth old new) (λ e. rw e (changes-none notMark b)) λ e.
       by-cases (heldDirect n b q old) (λ d.
-      by-cases (growFair n b h (q + old) (new - old))
-      (λ f. rw (e, d, f) (step-keeps _ b _ (grown-changes n b h (new - old) (loadArena b) (fair-few n b (and-left (recordFair n b) _ f)) (q + old))))
+      by-cases (growValid n b h (q + old) (new - old))
+      (λ f. rw (e, d, f) (step-keeps _ b _ (grown-changes n b h (new - old) (loadArena b) (valid-few n b (and-left (recordValid n b) _ f)) (q + old))))
       (λ f. rw (e, d, f) (changes-none notMark b)))
       (λ d. rw (e, d) (changes-none notMark b))
 
   release-keeps : (q m : ℕ) → Keeps b (releaseCall n b q m .book)
-  unfolding releaseCall giveFair
+  unfolding releaseCall giveValid
   release-keeps q m =
       by-cases (badRun m) (λ e. rw e (changes-none notMark b)) λ e.
       by-cases (heldDirect n b q m) (λ d.
-      by-cases (giveFair n b m)
-      (λ f. rw (e, d, f) (step-keeps _ b _ (given-changes b q m (few-give m q (loadArena b) (fair-few n b (and-left (recordFair n b) _ f))))))
+      by-cases (giveValid n b m)
+      (λ f. rw (e, d, f) (step-keeps _ b _ (given-changes b q m (few-give m q (loadArena b) (valid-few n b (and-left (recordValid n b) _ f))))))
       (λ f. rw (e, d, f) (changes-none notMark b)))
       (λ d. rw (e, d) (changes-none notMark b))
 

@@ -21,7 +21,7 @@ use Rattle.model.specs.Calls as Calls
 use Rattle.model.specs.Calls.{Call, isRefused, Request, Way, turned, straight, toClass, wayOf}
 use Rattle.model.specs.Page.{Page, isOut, returned, retire, noneOut}
 use Rattle.model.specs.Class.{Class, Cold, lists, Result, Ask, done, asks, serve, refuse, served, onRun, takeFrom}
-use Rattle.model.specs.Spot.{keepsEmpty, spotOf, fateOf}
+use Rattle.model.specs.Destination.{keepsEmpty, destinationOf, fateOf}
 use Rattle.model.specs.Release as Release
 use Rattle.model.specs.Release.{Site, inPartial, inFull, locate, park, settle, onPage, siteOfFirst, releaseList}
 use Rattle.model.specs.Chunks.{startsAt, settleChunk, settleChunks, releaseChunks, answer}
@@ -79,7 +79,7 @@ module _ (sh : Shape) (lim : Limits) where
 
   -- ---- a run is parked where there is room
   park-keeps : (h : ℕ) (s : Class) (p : Page) → In s → In (park sh lim h s p .class)
-  unfolding park spotOf
+  unfolding park destinationOf
   park-keeps h s p y =
       by-cases (keepsEmpty sh lim (length (s .empty)))
       (λ t. rw t (record {
@@ -108,7 +108,7 @@ module _ (sh : Shape) (lim : Limits) where
       (λ t. rw t (leaves retires))
       (λ t. rw t (y .put (returned ws (x .page))))
     where
-      leaves : (u : Bool) → In (cond u (Release.markRetired (park sh lim h (x .without) (retire (x .page)))) (park sh lim h (x .without) (returned ws (x .page))) .class)
+      leaves : (u : Bool) → In (cond u (Release.setRetired (park sh lim h (x .without) (retire (x .page)))) (park sh lim h (x .without) (returned ws (x .page))) .class)
       leaves true = park-keeps h (x .without) (retire (x .page)) (y .rest)
       leaves false = park-keeps h (x .without) (returned ws (x .page)) (y .rest)
 
@@ -184,15 +184,15 @@ within-after n rules xs c =
 
 -- ---- where an emptied run goes
 module _ (c : ℕ) (lim : Limits) (e k : ℕ) where
-  small-goes : Fit lim → c < 64 → spotOf (shapeOf c) lim e k ≡ goesTo (ltb e (lim .empty)) (ltb k (lim .cold))
-  unfolding spotOf shapeOf smallShape
+  small-goes : Fit lim → c < 64 → destinationOf (shapeOf c) lim e k ≡ goesTo (ltb e (lim .empty)) (ltb k (lim .cold))
+  unfolding destinationOf shapeOf smallShape
   small-goes f h =
       by-cases (ltb e (lim .empty))
       (λ t. let l : suc e * 1 ≤ 256 = omega (arith, ltb-true e (lim .empty) t, f .empty) in rw (lt-ltb c 64 h, t, le-leb (suc e * 1) 256 l))
       (λ t. rw (lt-ltb c 64 h, t))
 
-  medium-goes : 64 ≤ c → spotOf (shapeOf c) lim e k ≡ goesTo (ltb e (lim .empty) && leb (suc e * shapeOf c .pages) 128) (ltb k (lim .cold))
-  unfolding spotOf shapeOf mediumShape
+  medium-goes : 64 ≤ c → destinationOf (shapeOf c) lim e k ≡ goesTo (ltb e (lim .empty) && leb (suc e * shapeOf c .pages) 128) (ltb k (lim .cold))
+  unfolding destinationOf shapeOf mediumShape
   medium-goes h = rw (le-ltb c 64 h)
 
 nil-rules : (rows : List ℕ) → isNil rows ≡ true → rulesOf rows ≡ plainRules
@@ -218,7 +218,7 @@ parking s o =
           let f = freed-by (pages s) H x c h ws e (good (pages s) (rules s) ys c) (ap isRefused (sym a) ∙ u) in
           let r = by-row (pages s) (rules s) ys c h (H .rules c) ws (step (pages s) H x .answer) f q v has l m in
           let k = ap (λ (z : Rules). z c) (rules-after (pages s) (rules s) ys) in
-          (λ z. a ∙ r .0 z ∙ ap (λ (lim : Limits). Calls.fate (fateOf (shapeOf c) (spotOf (shapeOf c) lim (length (H .classes c .empty)) (length (H .classes c .cold))))) k, λ z. a ∙ r .1 z);
+          (λ z. a ∙ r .0 z ∙ ap (λ (lim : Limits). Calls.fate (fateOf (shapeOf c) (destinationOf (shapeOf c) lim (length (H .classes c .empty)) (length (H .classes c .cold))))) k, λ z. a ∙ r .1 z);
       groupFates = λ xs c h ws gs fs l u.
           let ys = calls s xs in
           let H = heapAfter (pages s) (rules s) ys in

@@ -1,6 +1,6 @@
 -- What a caller sees of the pool's exported functions is what `poolCall` says (specs/PoolContracts).
---     pool-shows-call    of one function
---     pool-in-turn       of calls in turn
+--     pool-observes-call    of one function
+--     pool-in-turn          of calls in turn
 use Prim.Native.Nat.{ℕ, zero, suc, _-_, _≤_, _<_}
 use native.Mathlib.Omega.{arith}
 use mathlib.Core.Bool.{Bool, true, false, cond, not, _||_}
@@ -23,19 +23,19 @@ use Rattle.arena.specs.Calls.{commitFor}
 use Rattle.pages.specs.Stack.{latest, draw}
 use Rattle.pages.specs.declared.Park.{Park}
 use Rattle.pages.specs.declared.Park.the-variants.{Empty, Cold}
-use Rattle.calls.specs.Take.{Took, tookNone, walk, parkFair, fillFrom, unlistSpent, took, fromPartial, fromPark, onRun, takeNew, takeBlocks, takeCall}
+use Rattle.calls.specs.Take.{Took, tookNone, walk, parkValid, fillFrom, unlistSpent, took, fromPartial, fromPark, onRun, takeNew, takeBlocks, takeCall}
 use Rattle.calls.specs.Release.{releaseBlocks}
 use Rattle.pool.specs.Stock.{stockMost, blank}
 use Rattle.pool.specs.Pool.{PoolCall, PoolAnswer, refused, granted, trimmed}
 use Rattle.pool.specs.Pool as Pool
 use Rattle.poolcalls.specs.Stock.{countIn, blockIn}
-use Rattle.poolcalls.specs.Calls.{Said, said, codeOf, blockOut, countFair, topFair, grantedIn, bringOn, tookOn, allocOn, gaveOn, freedOn, freeOn, trimOn}
+use Rattle.poolcalls.specs.Calls.{PoolReply, poolReply, codeOf, blockOut, countValid, topValid, grantedIn, bringOn, tookOn, allocOn, releasedOn, freedOn, freeOn, trimOn}
 use Rattle.vigbuso.specs.Faults.{classFault}
 use Rattle.vigbuso.specs.Pool.{poolOn}
-use Rattle.poolrefinement.specs.Run.{saidFrom}
+use Rattle.poolrefinement.specs.Run.{poolAnswersFrom}
 use Rattle.demands.specs.Pool.{poolCall}
-use Rattle.demands.specs.PoolContracts.{blockSeen, freeSeen, PoolShows, alloc, free, trim, direct, PoolInTurn, ends, calls}
-use Rattle.demands.proofs.Contracts.{shows-call}
+use Rattle.demands.specs.PoolContracts.{blockObserved, freeObserved, PoolObserves, alloc, free, trim, direct, PoolInTurn, ends, calls}
+use Rattle.demands.proofs.Contracts.{observes-call}
 
 -- ---- the words that a take answers, on any book: none is 0, since each has its class's kind
 abbrev Some : ℕ → Type 0
@@ -90,7 +90,7 @@ module _ (c : ℕ) (sh : Shape) (kind : 1 ≤ sh .kind) where
 
       park-some : (k : Park) → Full (fromPark n b c sh k l)
       unfolding fromPark
-      park-some k = full-cond (parkFair n b c sh k) _ _ (filled-some _) full-none
+      park-some k = full-cond (parkValid n b c sh k) _ _ (filled-some _) full-none
 
       new-some : (h : ℕ) → Full (takeNew n b c sh h l)
       unfolding takeNew
@@ -109,64 +109,64 @@ module _ (c : ℕ) (sh : Shape) (kind : 1 ≤ sh .kind) where
 abbrev Reads : (ℕ → ℕ → PoolAnswer) → PoolAnswer → Type 0
 Reads f a = (old : ℕ) → f (codeOf a) (blockOut a old) ≡ a
 
-reads-cond : (f : ℕ → ℕ → PoolAnswer) (t : Bool) (x y : Said) → (t ≡ true → Reads f (x .answer)) → (t ≡ false → Reads f (y .answer)) → Reads f (cond t x y .answer)
+reads-cond : (f : ℕ → ℕ → PoolAnswer) (t : Bool) (x y : PoolReply) → (t ≡ true → Reads f (x .answer)) → (t ≡ false → Reads f (y .answer)) → Reads f (cond t x y .answer)
 reads-cond f true x y h g = h refl
 reads-cond f false x y h g = g refl
 
 -- a free's out-parameter is none
-abbrev bareSeen : ℕ → ℕ → PoolAnswer
-bareSeen r w = freeSeen r
+abbrev bareObserved : ℕ → ℕ → PoolAnswer
+bareObserved r w = freeObserved r
 
-refused-read : (got : ℕ → PoolAnswer) (k : ℕ) → eqb k 0 ≡ false → Reads (blockSeen got) (refused k)
+refused-read : (got : ℕ → PoolAnswer) (k : ℕ) → eqb k 0 ≡ false → Reads (blockObserved got) (refused k)
 refused-read got k e old = rw e
 
-free-refused : (k : ℕ) → eqb k 0 ≡ false → Reads bareSeen (refused k)
+free-refused : (k : ℕ) → eqb k 0 ≡ false → Reads bareObserved (refused k)
 free-refused k e old = rw e
 
-granted-read : (w : ℕ) → Some w → Reads (blockSeen granted) (granted w)
+granted-read : (w : ℕ) → Some w → Reads (blockObserved granted) (granted w)
 granted-read w h old = rw (ne-eqb w 0 (λ z. omega arith))
 
-trimmed-read : (w : ℕ) → Some w → Reads (blockSeen trimmed) (trimmed w)
+trimmed-read : (w : ℕ) → Some w → Reads (blockObserved trimmed) (trimmed w)
 trimmed-read w h old = rw (ne-eqb w 0 (λ z. omega arith))
 
 block-some : (b : List ℕ) (c k : ℕ) → Some (blockIn b c k)
 block-some b c k = omega (arith, shape-sound c .named)
 
 module _ (n : ℕ) (b : List ℕ) (c h : ℕ) where
-  alloc-read : Reads (blockSeen granted) (allocOn n b c h .answer)
+  alloc-read : Reads (blockObserved granted) (allocOn n b c h .answer)
   unfolding allocOn tookOn bringOn
   alloc-read =
       let t = takeCall n b c (shapeOf c) h blank in
-      reads-cond (blockSeen granted) (eqb (countIn b c) 0) _ _
-      (λ e. reads-cond (blockSeen granted) (eqb (t .code) 0) _ _
-      (λ u. reads-cond (blockSeen granted) (eqb (t .count) 0) _ _ (λ v old. refl)
+      reads-cond (blockObserved granted) (eqb (countIn b c) 0) _ _
+      (λ e. reads-cond (blockObserved granted) (eqb (t .code) 0) _ _
+      (λ u. reads-cond (blockObserved granted) (eqb (t .count) 0) _ _ (λ v old. refl)
       (λ v. granted-read (getD (t .list) (t .count - 1) 0) (take-some c (shapeOf c) (shape-sound c .named) blank n b h .words (t .count - 1) (less (t .count) (eqb-false (t .count) 0 v)))))
       (refused-read granted (t .code)))
-      (λ e. reads-cond (blockSeen granted) (topFair n b c) _ _ (λ u. granted-read (blockIn b c (countIn b c - 1)) (block-some b c (countIn b c - 1))) (λ u. refused-read granted 13 refl))
+      (λ e. reads-cond (blockObserved granted) (topValid n b c) _ _ (λ u. granted-read (blockIn b c (countIn b c - 1)) (block-some b c (countIn b c - 1))) (λ u. refused-read granted 13 refl))
     where
       less : (m : ℕ) → (m ≡ 0 → ⊥) → m - 1 < m
       less zero d = absurd (d refl)
       less (suc m) d = omega arith
 
-  trim-read : Reads (blockSeen trimmed) (trimOn n b c h .answer)
-  unfolding trimOn gaveOn
+  trim-read : Reads (blockObserved trimmed) (trimOn n b c h .answer)
+  unfolding trimOn releasedOn
   trim-read =
       let w = blockIn b c (countIn b c - 1) in
       let z = releaseBlocks n b c (shapeOf c) h (w ∷ []) in
-      reads-cond (blockSeen trimmed) (eqb (countIn b c) 0) _ _ (λ e old. refl)
-      (λ e. reads-cond (blockSeen trimmed) (topFair n b c) _ _
-      (λ u. reads-cond (blockSeen trimmed) (eqb (z .code) 0) _ _ (λ v. trimmed-read w (block-some b c (countIn b c - 1))) (refused-read trimmed (z .code)))
+      reads-cond (blockObserved trimmed) (eqb (countIn b c) 0) _ _ (λ e old. refl)
+      (λ e. reads-cond (blockObserved trimmed) (topValid n b c) _ _
+      (λ u. reads-cond (blockObserved trimmed) (eqb (z .code) 0) _ _ (λ v. trimmed-read w (block-some b c (countIn b c - 1))) (refused-read trimmed (z .code)))
       (λ u. refused-read trimmed 13 refl))
 
-  free-read : (w : ℕ) → Reads bareSeen (freeOn n b c h w .answer)
-  unfolding freeOn freedOn gaveOn
+  free-read : (w : ℕ) → Reads bareObserved (freeOn n b c h w .answer)
+  unfolding freeOn freedOn releasedOn
   free-read w =
       let z = releaseBlocks n b c (shapeOf c) h (w ∷ []) in
-      reads-cond bareSeen (not (ofKind (shapeOf c .kind) w)) _ _ (λ e. free-refused 9 refl)
-      (λ e. reads-cond bareSeen (not (grantedIn n b c w)) _ _ (λ u. free-refused 10 refl)
-      (λ u. reads-cond bareSeen (ltb (countIn b c) (stockMost c)) _ _ (λ v old. refl)
-      (λ v. reads-cond bareSeen (countFair b c) _ _
-      (λ x. reads-cond bareSeen (eqb (z .code) 0) _ _ (λ y old. refl) (free-refused (z .code)))
+      reads-cond bareObserved (not (ofKind (shapeOf c .kind) w)) _ _ (λ e. free-refused 9 refl)
+      (λ e. reads-cond bareObserved (not (grantedIn n b c w)) _ _ (λ u. free-refused 10 refl)
+      (λ u. reads-cond bareObserved (ltb (countIn b c) (stockMost c)) _ _ (λ v old. refl)
+      (λ v. reads-cond bareObserved (countValid b c) _ _
+      (λ x. reads-cond bareObserved (eqb (z .code) 0) _ _ (λ y old. refl) (free-refused (z .code)))
       (λ x. free-refused 13 refl))))
 
 -- numbers 1 to 4 come first
@@ -177,27 +177,27 @@ module _ (b : List ℕ) (c h : ℕ) where
   abbrev n : ℕ
   n = get b (arena size)
 
-  alloc-said : Reads (blockSeen granted) (poolOn b c (Pool.alloc h) .answer)
+  alloc-reply : Reads (blockObserved granted) (poolOn b c (Pool.alloc h) .answer)
   unfolding poolOn
-  alloc-said = reads-cond (blockSeen granted) (eqb fault 0) _ _ (λ e. alloc-read n b c h) (refused-read granted fault)
+  alloc-reply = reads-cond (blockObserved granted) (eqb fault 0) _ _ (λ e. alloc-read n b c h) (refused-read granted fault)
 
-  trim-said : Reads (blockSeen trimmed) (poolOn b c (Pool.trim h) .answer)
+  trim-reply : Reads (blockObserved trimmed) (poolOn b c (Pool.trim h) .answer)
   unfolding poolOn
-  trim-said = reads-cond (blockSeen trimmed) (eqb fault 0) _ _ (λ e. trim-read n b c h) (refused-read trimmed fault)
+  trim-reply = reads-cond (blockObserved trimmed) (eqb fault 0) _ _ (λ e. trim-read n b c h) (refused-read trimmed fault)
 
-  free-said : (w : ℕ) → Reads bareSeen (poolOn b c (Pool.free h w) .answer)
+  free-reply : (w : ℕ) → Reads bareObserved (poolOn b c (Pool.free h w) .answer)
   unfolding poolOn
-  free-said w = reads-cond bareSeen (eqb fault 0) _ _ (λ e. free-read n b c h w) (free-refused fault)
+  free-reply w = reads-cond bareObserved (eqb fault 0) _ _ (λ e. free-read n b c h w) (free-refused fault)
 
 -- ---- the calls
-pub pool-shows-call : {b : List ℕ} {x : PoolCall} {s : Said} → PoolShows b x s → s ≡ poolCall b x
+pub pool-observes-call : {b : List ℕ} {x : PoolCall} {s : PoolReply} → PoolObserves b x s → s ≡ poolCall b x
 unfolding poolCall
-pool-shows-call {b} (alloc c h r w w′ b′ e) = rw (e .code, e .book, e .block) (ap (λ a. said a (poolOn b c (Pool.alloc h) .book)) (alloc-said b c h w))
-pool-shows-call {b} (free c h w r b′ e) = rw (e .code, e .book) (ap (λ a. said a (poolOn b c (Pool.free h w) .book)) (free-said b c h w 0))
-pool-shows-call {b} (trim c h r w w′ b′ e) = rw (e .code, e .book, e .block) (ap (λ a. said a (poolOn b c (Pool.trim h) .book)) (trim-said b c h w))
-pool-shows-call (direct d w s) = rw (shows-call s)
+pool-observes-call {b} (alloc c h r w w′ b′ e) = rw (e .code, e .book, e .block) (ap (λ a. poolReply a (poolOn b c (Pool.alloc h) .book)) (alloc-reply b c h w))
+pool-observes-call {b} (free c h w r b′ e) = rw (e .code, e .book) (ap (λ a. poolReply a (poolOn b c (Pool.free h w) .book)) (free-reply b c h w 0))
+pool-observes-call {b} (trim c h r w w′ b′ e) = rw (e .code, e .book, e .block) (ap (λ a. poolReply a (poolOn b c (Pool.trim h) .book)) (trim-reply b c h w))
+pool-observes-call (direct d w s) = rw (observes-call s)
 
-pub pool-in-turn : {b : List ℕ} {xs : List PoolCall} {ss : List Said} → PoolInTurn b xs ss → map (λ s. s .answer) ss ≡ saidFrom poolCall b xs
+pub pool-in-turn : {b : List ℕ} {xs : List PoolCall} {ss : List PoolReply} → PoolInTurn b xs ss → map (λ s. s .answer) ss ≡ poolAnswersFrom poolCall b xs
 pool-in-turn (ends b) = refl
 pool-in-turn (calls b x s xs ss p t) =
-    ap₂ (λ (a : PoolAnswer) (zs : List PoolAnswer). a ∷ zs) (ap (λ (v : Said). v .answer) (pool-shows-call p)) (pool-in-turn t ∙ ap (λ (v : Said). saidFrom poolCall (v .book) xs) (pool-shows-call p))
+    ap₂ (λ (a : PoolAnswer) (zs : List PoolAnswer). a ∷ zs) (ap (λ (v : PoolReply). v .answer) (pool-observes-call p)) (pool-in-turn t ∙ ap (λ (v : PoolReply). poolAnswersFrom poolCall (v .book) xs) (pool-observes-call p))

@@ -17,37 +17,37 @@ use Rattle.fields.specs.Field.{arena, page, size, owner, get}
 use Rattle.fields.specs.Ranges.{metaFault, maxPages}
 use Rattle.model.specs.Release.{ofKind}
 use Rattle.pages.specs.Stack.{pageAt, indexOf}
-use Rattle.pages.proofs.Downs.{digit-le}
+use Rattle.pages.proofs.Descending.{digit-le}
 use Rattle.calls.specs.Out.{startOf, outAt, unmarked, repeats}
-use Rattle.calls.specs.Release.{Released, releasedNone, releaseFair, releaseBlocks, giveBackAt}
+use Rattle.calls.specs.Release.{Released, releasedNone, releaseValid, releaseBlocks, giveBackAt}
 use Rattle.calls.specs.Take.{Took, takeCall, takeBlocks}
 use Rattle.calls.proofs.Out.{fault-marked, fault-foreign, passes}
 use Rattle.trace.specs.Words.{ownerAt, known}
 use Rattle.trace.proofs.Refused.{give-zero}
 use Rattle.pool.specs.Stock.{stockMost, blank}
-use Rattle.pool.specs.Pool.{PoolAnswer, Wish, hostIn, alloc, free, trim, refused, granted, trimmed, noBlock, freed, answered}
+use Rattle.pool.specs.Pool.{PoolAnswer, PoolRequest, hostIn, alloc, free, trim, refused, granted, trimmed, noBlock, freed, answered}
 use Rattle.poolcalls.specs.Stock.{countIn, entryIn, blockIn}
-use Rattle.poolcalls.specs.Calls.{Said, said, codeOf, blockOut, countFair, topFair, grantedIn, stockedIn, bringOn, tookOn, allocOn, gaveOn, freedOn, freeOn, trimOn, wishOn}
+use Rattle.poolcalls.specs.Calls.{PoolReply, poolReply, codeOf, blockOut, countValid, topValid, grantedIn, stockedIn, bringOn, tookOn, allocOn, releasedOn, freedOn, freeOn, trimOn, requestOn}
 use Rattle.vigbuso.specs.Faults.{callFault, classFault, admits}
 use Rattle.vigbuso.specs.Pool.{poolOn, classOn, grantedOn, stockedOn}
 use Rattle.demands.specs.Ranges.{Use, strays}
 use Rattle.demands.specs.Reads.{takeReads, barren, markReads, releaseReads, stockReads, topReads}
 use Rattle.demands.specs.Refusals.{Row, firstNumber}
-use Rattle.demands.specs.PoolRefusals.{poolEarly, allocTable, freeTable, trimTable, bookTable, lookEarly, grantedTable, stockedTable, PoolDemand1}
+use Rattle.demands.specs.PoolRefusals.{poolEarly, allocTable, freeTable, trimTable, bookTable, queryEarly, grantedTable, stockedTable, PoolDemand1}
 use Rattle.demands.proofs.Ranges.{fits-append, number-13, take-strays, top-strays, release-strays}
 use Rattle.demands.proofs.RefusalsLaws.{Ends, ends, turn, unless, book-turn, chain}
 use Rattle.demands.proofs.RefusalsCalls.{take-row, last-code}
 use Rattle.demands.proofs.Refusals.{refuses, digit-one}
-use Rattle.demands.proofs.PoolLook.{granted-class}
+use Rattle.demands.proofs.PoolQuery.{granted-class}
 
-abbrev turned : List ℕ → ℕ → Said
-turned b k = said (refused k) b
+abbrev turned : List ℕ → ℕ → PoolReply
+turned b k = poolReply (refused k) b
 
-abbrev code : Said → ℕ
+abbrev code : PoolReply → ℕ
 code s = codeOf (s .answer)
 
-abbrev Rows : List ℕ → List Row → Said → Type 0
-Rows b rows s = Ends {R = Said} code (λ s. s .book ≡ b) rows s
+abbrev Rows : List ℕ → List Row → PoolReply → Type 0
+Rows b rows s = Ends {R = PoolReply} code (λ s. s .book ≡ b) rows s
 
 -- a refusal leaves the out-parameter
 block-kept : (a : PoolAnswer) (w : ℕ) → (codeOf a ≡ 0 → ⊥) → blockOut a w ≡ w
@@ -78,11 +78,11 @@ module _ (n : ℕ) (b : List ℕ) (c : ℕ) (sh : Shape) (h w : ℕ) (kd : ofKin
   unfolding releaseBlocks
   one-foreign u o = rw (kd, fault-foreign n b c sh (w ∷ []) u (one-single o) (rw o))
 
-  one-unfair : unmarked n b c sh (w ∷ []) ≡ true → outAt n b c sh w ≡ true → releaseFair n b c sh 1 q ≡ false → z ≡ releasedNone b 13
+  one-invalid : unmarked n b c sh (w ∷ []) ≡ true → outAt n b c sh w ≡ true → releaseValid n b c sh 1 q ≡ false → z ≡ releasedNone b 13
   unfolding releaseBlocks
-  one-unfair u o f = rw (kd, passes n b c sh (w ∷ []) u (rw o) refl, eq-eqb q q refl, f)
+  one-invalid u o f = rw (kd, passes n b c sh (w ∷ []) u (rw o) refl, eq-eqb q q refl, f)
 
-  one-done : unmarked n b c sh (w ∷ []) ≡ true → outAt n b c sh w ≡ true → releaseFair n b c sh 1 q ≡ true → z .code ≡ 0
+  one-done : unmarked n b c sh (w ∷ []) ≡ true → outAt n b c sh w ≡ true → releaseValid n b c sh 1 q ≡ true → z .code ≡ 0
   unfolding releaseBlocks
   one-done u o f =
       rw (kd, passes n b c sh (w ∷ []) u (rw o) refl, eq-eqb q q refl, f)
@@ -90,23 +90,23 @@ module _ (n : ℕ) (b : List ℕ) (c : ℕ) (sh : Shape) (h w : ℕ) (kd : ofKin
 
   -- what is said of it: `a`, with a book of the caller's own
   abbrev backRows : List Row
-  backRows = (13, not (unmarked n b c sh (w ∷ []))) ∷ (10, not (outAt n b c sh w)) ∷ (13, not (releaseFair n b c sh 1 q)) ∷ []
+  backRows = (13, not (unmarked n b c sh (w ∷ []))) ∷ (10, not (outAt n b c sh w)) ∷ (13, not (releaseValid n b c sh 1 q)) ∷ []
 
-  gave-none : (a : PoolAnswer) (d : List ℕ) (k : ℕ) → eqb k 0 ≡ false → z ≡ releasedNone b k → gaveOn a d z ≡ turned b k
-  unfolding gaveOn
+  gave-none : (a : PoolAnswer) (d : List ℕ) (k : ℕ) → eqb k 0 ≡ false → z ≡ releasedNone b k → releasedOn a d z ≡ turned b k
+  unfolding releasedOn
   gave-none a d k e r = rw (r, e)
 
-  gave-done : (a : PoolAnswer) (d : List ℕ) → z .code ≡ 0 → gaveOn a d z ≡ said a d
-  unfolding gaveOn
+  gave-done : (a : PoolAnswer) (d : List ℕ) → z .code ≡ 0 → releasedOn a d z ≡ poolReply a d
+  unfolding releasedOn
   gave-done a d e = rw e
 
-  back-rows : (a : PoolAnswer) (d : List ℕ) → codeOf a ≡ 0 → Rows b backRows (gaveOn a d z)
+  back-rows : (a : PoolAnswer) (d : List ℕ) → codeOf a ≡ 0 → Rows b backRows (releasedOn a d z)
   back-rows a d ca =
       by-cases (unmarked n b c sh (w ∷ []))
       (λ u. by-cases (outAt n b c sh w)
-      (λ o. by-cases (releaseFair n b c sh 1 q)
+      (λ o. by-cases (releaseValid n b c sh 1 q)
       (λ f. rw (u, o, f, gave-done a d (one-done u o f)) (record { number = ca; kept = λ d. absurd (d ca) }))
-      (λ f. rw (u, o, f, gave-none a d 13 refl (one-unfair u o f)) (record { number = refl; kept = λ d. refl })))
+      (λ f. rw (u, o, f, gave-none a d 13 refl (one-invalid u o f)) (record { number = refl; kept = λ d. refl })))
       (λ o. rw (u, o, gave-none a d 10 refl (one-foreign u o)) (record { number = refl; kept = λ d. refl })))
       (λ u. rw (u, gave-none a d 13 refl (one-marked u)) (record { number = refl; kept = λ d. refl }))
 
@@ -133,7 +133,7 @@ alloc-row b c h =
     let n = get b (arena size) in
     by-cases (eqb (countIn b c) 0)
     (λ e. rw (e, ← (take-strays b c (shapeOf c)), take-is n b c h) (took-rows b blank c _ _ (take-row n b c (shapeOf c) h blank)))
-    (λ e. rw (e, ← (top-strays b c (shapeOf c))) (unless _ _ (topFair n b c) 13 _ _ _ refl refl λ u. ends _ _ _ refl))
+    (λ e. rw (e, ← (top-strays b c (shapeOf c))) (unless _ _ (topValid n b c) 13 _ _ _ refl refl λ u. ends _ _ _ refl))
 
 -- ---- free
 module _ (b : List ℕ) (c h w : ℕ) where
@@ -149,14 +149,14 @@ module _ (b : List ℕ) (c h w : ℕ) where
   abbrev backs : List Use
   backs = releaseReads b c sh 1 (startOf b w)
 
-  full-strays : strays b (stockReads c ++ (marks ++ backs)) ≡ not (countFair b c && (unmarked length₀ b c sh (w ∷ []) && releaseFair length₀ b c sh 1 (startOf b w)))
+  full-strays : strays b (stockReads c ++ (marks ++ backs)) ≡ not (countValid b c && (unmarked length₀ b c sh (w ∷ []) && releaseValid length₀ b c sh 1 (startOf b w)))
   unfolding strays
   full-strays =
       ap not
       (fits-append b (stockReads c) (marks ++ backs)
       ∙ ap₂ (λ (s t : Bool). s && t) (sym (number-13 b .stock c)) (fits-append b marks backs ∙ ap₂ (λ (s t : Bool). s && t) (sym (number-13 b .marks c sh (w ∷ []))) (sym (number-13 b .release c sh 1 (startOf b w)))))
 
-  top-marks : strays b (topReads b c ++ marks) ≡ not (topFair length₀ b c && unmarked length₀ b c sh (w ∷ []))
+  top-marks : strays b (topReads b c ++ marks) ≡ not (topValid length₀ b c && unmarked length₀ b c sh (w ∷ []))
   unfolding strays
   top-marks = ap not (fits-append b (topReads b c) marks ∙ ap₂ (λ (s t : Bool). s && t) (sym (number-13 b .top c)) (sym (number-13 b .marks c sh (w ∷ []))))
 
@@ -164,13 +164,13 @@ module _ (b : List ℕ) (c h w : ℕ) where
     abbrev back : Released
     back = releaseBlocks length₀ b c sh h (w ∷ [])
 
-    full-row : Rows b ((13, not (countFair b c && (unmarked length₀ b c sh (w ∷ []) && releaseFair length₀ b c sh 1 (startOf b w)))) ∷ []) (cond (countFair b c) (gaveOn freed (back .book) back) (turned b 13))
+    full-row : Rows b ((13, not (countValid b c && (unmarked length₀ b c sh (w ∷ []) && releaseValid length₀ b c sh 1 (startOf b w)))) ∷ []) (cond (countValid b c) (releasedOn freed (back .book) back) (turned b 13))
     full-row =
-        by-cases (countFair b c)
+        by-cases (countValid b c)
         (λ e. by-cases (unmarked length₀ b c sh (w ∷ []))
-        (λ u. by-cases (releaseFair length₀ b c sh 1 (startOf b w))
+        (λ u. by-cases (releaseValid length₀ b c sh 1 (startOf b w))
         (λ f. rw (e, u, f, gave-done length₀ b c sh h w kd freed (back .book) (one-done length₀ b c sh h w kd u o f)) (record { number = refl; kept = λ d. absurd (d refl) }))
-        (λ f. rw (e, u, f, gave-none length₀ b c sh h w kd freed (back .book) 13 refl (one-unfair length₀ b c sh h w kd u o f)) (record { number = refl; kept = λ d. refl })))
+        (λ f. rw (e, u, f, gave-none length₀ b c sh h w kd freed (back .book) 13 refl (one-invalid length₀ b c sh h w kd u o f)) (record { number = refl; kept = λ d. refl })))
         (λ u. rw (e, u, gave-none length₀ b c sh h w kd freed (back .book) 13 refl (one-marked length₀ b c sh h w kd u)) (record { number = refl; kept = λ d. refl })))
         (λ e. rw e (record { number = refl; kept = λ d. refl }))
 
@@ -196,35 +196,35 @@ module _ (b : List ℕ) (c h : ℕ) (low : get b (arena size) ≤ maxPages) wher
   abbrev n : ℕ
   n = get b (arena size)
 
-  top-kind : topFair n b c ≡ true → ofKind (shapeOf c .kind) top ≡ true
-  unfolding topFair ofKind
+  top-kind : topValid n b c ≡ true → ofKind (shapeOf c .kind) top ≡ true
+  unfolding topValid ofKind
   top-kind t =
       let e = entryIn b c (countIn b c - 1) in
-      let u : e < 4096 * n = ltb-true e (4096 * n) (and-right (countFair b c) _ t) in
+      let u : e < 4096 * n = ltb-true e (4096 * n) (and-right (countValid b c) _ t) in
       eq-eqb (kindOf top) (shapeOf c .kind) (omega arith)
 
   some-row : eqb (countIn b c) 0 ≡ false
-      → Rows b ((13, not (topFair n b c && unmarked n b c (shapeOf c) (top ∷ []))) ∷ (10, not (outAt n b c (shapeOf c) top)) ∷ (13, not (releaseFair n b c (shapeOf c) 1 (startOf b top))) ∷ []) (trimOn n b c h)
+      → Rows b ((13, not (topValid n b c && unmarked n b c (shapeOf c) (top ∷ []))) ∷ (10, not (outAt n b c (shapeOf c) top)) ∷ (13, not (releaseValid n b c (shapeOf c) 1 (startOf b top))) ∷ []) (trimOn n b c h)
   unfolding trimOn
   some-row e =
-      by-cases (topFair n b c)
+      by-cases (topValid n b c)
       (λ t. rw (e, t) (back-rows n b c (shapeOf c) h top (top-kind t) (trimmed top) _ refl))
       (λ t. rw (e, t) (record { number = refl; kept = λ d. refl }))
 
-  bare-said : eqb (countIn b c) 0 ≡ true → trimOn n b c h ≡ said noBlock b
+  bare-reply : eqb (countIn b c) 0 ≡ true → trimOn n b c h ≡ poolReply noBlock b
   unfolding trimOn
-  bare-said e = rw e
+  bare-reply e = rw e
 
   trim-row : (let some = not (eqb (countIn b c) 0) in
       Rows b ((13, some && strays b (topReads b c ++ markReads b c (shapeOf c) (top ∷ []))) ∷ (10, some && not (outAt n b c (shapeOf c) top)) ∷ (13, some && strays b (releaseReads b c (shapeOf c) 1 (startOf b top))) ∷ [])
       (trimOn n b c h))
   trim-row =
       by-cases (eqb (countIn b c) 0)
-      (λ e. rw (e, bare-said e) (record { number = refl; kept = λ d. absurd (d refl) }))
+      (λ e. rw (e, bare-reply e) (record { number = refl; kept = λ d. absurd (d refl) }))
       (λ e. rw (e, top-marks b c h top, ← (release-strays b c (shapeOf c) 1 (startOf b top))) (some-row e))
 
 -- ---- numbers 1 to 4
-early : (b : List ℕ) (c : ℕ) (x : Wish) (rows : List Row) → Rows b rows (wishOn (get b (arena size)) b c x) → Rows b (poolEarly b c (hostIn x) ++ rows) (poolOn b c x)
+early : (b : List ℕ) (c : ℕ) (x : PoolRequest) (rows : List Row) → Rows b rows (requestOn (get b (arena size)) b c x) → Rows b (poolEarly b c (hostIn x) ++ rows) (poolOn b c x)
 unfolding poolOn classFault callFault metaFault
 early b c x rows f =
     rw (chain (callFault b (hostIn x)) 4 (leb classCount c) (turned b) _ refl, chain (metaFault b) 3 (badHost (hostIn x)) (turned b) _ refl)
@@ -236,7 +236,7 @@ early b c x rows f =
     b)
 
 -- an arena that is too long
-module _ (b : List ℕ) (c : ℕ) (x : Wish) (big : ltb maxPages (get b (arena size)) ≡ true) where
+module _ (b : List ℕ) (c : ℕ) (x : PoolRequest) (big : ltb maxPages (get b (arena size)) ≡ true) where
   long-fault : classFault b (hostIn x) classCount c ≡ 1
   unfolding classFault callFault metaFault
   long-fault = rw (lt-leb (get b (arena size)) maxPages (ltb-true maxPages (get b (arena size)) big), and-no (leb 1 (get b (arena size))))
@@ -262,29 +262,29 @@ trim-table b c h =
 
 -- ---- the calls that only read
 module _ (b : List ℕ) (c : ℕ) (rows : List Row) where
-  look-first : cond (eqb (metaFault b) 0) (cond (leb classCount c) 4 (firstNumber rows)) (metaFault b) ≡ firstNumber (lookEarly b c ++ rows)
+  query-first : cond (eqb (metaFault b) 0) (cond (leb classCount c) 4 (firstNumber rows)) (metaFault b) ≡ firstNumber (queryEarly b c ++ rows)
   unfolding metaFault
-  look-first = book-turn {R = ℕ} (λ x. x) (λ x. Unit {0}) ((4, leb classCount c) ∷ rows) (λ x. x) _ (λ x. refl) (λ x. tt) (record { number = refl; kept = λ d. tt }) (get b (arena size)) b .number
+  query-first = book-turn {R = ℕ} (λ x. x) (λ x. Unit {0}) ((4, leb classCount c) ∷ rows) (λ x. x) _ (λ x. refl) (λ x. tt) (record { number = refl; kept = λ d. tt }) (get b (arena size)) b .number
 
   -- no number of a table applies
   record Clear : Type 0 where
     admitted : admits b c ≡ true
     rest : firstNumber rows ≡ 0
 
-  clear : firstNumber (lookEarly b c ++ rows) ≡ 0 → Clear
+  clear : firstNumber (queryEarly b c ++ rows) ≡ 0 → Clear
   unfolding admits
   clear z =
       by-cases (eqb (metaFault b) 0)
       (λ e. by-cases (leb classCount c)
-      (λ l. let y : _≡_ {A = ℕ} 4 0 = rw (e, l) at (look-first ∙ z) in absurd (omega arith))
-      (λ l. record { admitted = rw (e, lt-ltb c classCount (leb-false classCount c l)); rest = rw (e, l) at (look-first ∙ z) }))
-      (λ e. absurd (eqb-false (metaFault b) 0 e (rw e at (look-first ∙ z))))
+      (λ l. let y : _≡_ {A = ℕ} 4 0 = rw (e, l) at (query-first ∙ z) in absurd (omega arith))
+      (λ l. record { admitted = rw (e, lt-ltb c classCount (leb-false classCount c l)); rest = rw (e, l) at (query-first ∙ z) }))
+      (λ e. absurd (eqb-false (metaFault b) 0 e (rw e at (query-first ∙ z))))
 
-  cleared : Clear → firstNumber (lookEarly b c ++ rows) ≡ 0
+  cleared : Clear → firstNumber (queryEarly b c ++ rows) ≡ 0
   unfolding admits
   cleared k =
       let l = ltb-true c classCount (and-right (eqb (metaFault b) 0) _ (k .admitted)) in
-      sym look-first ∙ rw (and-left (eqb (metaFault b) 0) _ (k .admitted), lt-leb classCount c l) (k .rest)
+      sym query-first ∙ rw (and-left (eqb (metaFault b) 0) _ (k .admitted), lt-leb classCount c l) (k .rest)
 
 -- two tests, or one, that both pass
 both-pass : (s t : Bool) → firstNumber ((9, not s) ∷ (10, not t) ∷ []) ≡ 0 → (s && t) ≡ true
@@ -319,19 +319,19 @@ module _ (b : List ℕ) (c w : ℕ) where
       })
 
 module _ (b : List ℕ) (c : ℕ) where
-  count-strays : strays b (stockReads c) ≡ not (countFair b c)
+  count-strays : strays b (stockReads c) ≡ not (countValid b c)
   unfolding strays
   count-strays = ap not (sym (number-13 b .stock c))
 
   stock-counted : firstNumber (stockedTable b c) ≡ 0 → stockedOn b c ≡ countIn b c
   unfolding stockedOn stockedIn
-  stock-counted e = let k = clear b c ((13, strays b (stockReads c)) ∷ []) e in rw (k .admitted, one-pass (countFair b c) (rw count-strays at (k .rest)))
+  stock-counted e = let k = clear b c ((13, strays b (stockReads c)) ∷ []) e in rw (k .admitted, one-pass (countValid b c) (rw count-strays at (k .rest)))
 
   stock-none : (firstNumber (stockedTable b c) ≡ 0 → ⊥) → stockedOn b c ≡ 0
   unfolding stockedOn stockedIn
   stock-none d =
       by-cases (admits b c)
-      (λ a. by-cases (countFair b c)
+      (λ a. by-cases (countValid b c)
       (λ f. absurd (d (cleared b c ((13, strays b (stockReads c)) ∷ []) (record { admitted = a; rest = rw (count-strays, f) }))))
       (λ f. rw (a, f)))
       (λ a. rw a)

@@ -1,7 +1,7 @@
 -- A pool history over the exported functions is the model's.
---     run-is        its answers are the model's
---     pool-rep      the book that it leaves stands for the model's pool
---     told-is       the calls with their answers are the model's events without the runs
+--     run-is           its answers are the model's
+--     pool-rep         the book that it leaves stands for the model's pool
+--     observed-is      the calls with their answers are the model's events without the runs
 use Prim.Native.Nat.{ℕ, _≤_}
 use mathlib.Core.Bool.{true}
 use mathlib.Core.List.{List, [], _∷_, _++_, map, head-eq-of-cons-eq, tail-eq-of-cons-eq}
@@ -19,23 +19,23 @@ use Rattle.fields.specs.Field.{words}
 use Rattle.fields.specs.Ranges.{maxPages}
 use Rattle.model.specs.History.{Event}
 use Rattle.arena.specs.Open.{opened}
-use Rattle.pool.specs.Pool.{Pool, newPool, PoolCall, PoolAnswer, Wish, hostIn, to, direct, callBy, poolStep}
-use Rattle.pool.specs.Told.{told, toldOf, poolEvents, poolEventsFrom, poolAfter}
+use Rattle.pool.specs.Pool.{Pool, newPool, PoolCall, PoolAnswer, PoolRequest, hostIn, to, direct, callBy, poolStep}
+use Rattle.pool.specs.Observed.{observed, observedOf, poolEvents, poolEventsFrom, poolAfter}
 use Rattle.pool.proofs.Conserved.{pool-append}
-use Rattle.poolcalls.specs.Calls.{Said}
+use Rattle.poolcalls.specs.Calls.{PoolReply}
 use Rattle.vigbuso.specs.Direct.{openOn}
 use Rattle.vigbuso.specs.Pool.{poolOn}
 use Rattle.poolrefinement.specs.way.Represents.{PoolRep}
-use Rattle.poolrefinement.specs.Run.{askOn, onCall, saidFrom, bookFrom}
+use Rattle.poolrefinement.specs.Run.{askOn, onCall, poolAnswersFrom, bookFrom}
 use Rattle.poolrefinement.proofs.Runs.{opened-pool, call-agrees, pool-runs}
 use Rattle.demands.specs.Run.{Opens}
-use Rattle.demands.specs.Pool.{poolCall, poolRun, poolBook, heard, poolTold}
+use Rattle.demands.specs.Pool.{poolCall, poolRun, poolBook, recorded, poolObserved}
 use Rattle.demands.proofs.Calls.{room, opened-by, call-is, class-turned, class-fits, class-none}
-use Rattle.demands.proofs.Told.{bare}
+use Rattle.demands.proofs.Observed.{bare}
 
 -- ---- one call, on a book that stands for a pool
 module _ (n : ℕ) (some-pages : 1 ≤ n) (few-pages : n ≤ maxPages) (b : List ℕ) (P : Pool) (R : PoolRep n b P) where
-  pub ask-is : (c : ℕ) (x : Wish) → poolOn b c x ≡ askOn n b c x
+  pub ask-is : (c : ℕ) (x : PoolRequest) → poolOn b c x ≡ askOn n b c x
   unfolding poolOn askOn
   ask-is c x =
       let h = hostIn x in
@@ -52,7 +52,7 @@ module _ (n : ℕ) (some-pages : 1 ≤ n) (few-pages : n ≤ maxPages) (b : List
 
 -- ---- in turn
 record Same (n : ℕ) (b : List ℕ) (xs : List PoolCall) : Type 0 where
-  answers : saidFrom poolCall b xs ≡ saidFrom (onCall n) b xs
+  answers : poolAnswersFrom poolCall b xs ≡ poolAnswersFrom (onCall n) b xs
   book : bookFrom poolCall b xs ≡ bookFrom (onCall n) b xs
 
 module _ (n : ℕ) (some-pages : 1 ≤ n) (few-pages : n ≤ maxPages) (rules : Rules) where
@@ -64,8 +64,8 @@ module _ (n : ℕ) (some-pages : 1 ≤ n) (few-pages : n ≤ maxPages) (rules : 
       let next = pool-append n (newPool rules) ys (x ∷ []) in
       let ih = same xs (ys ++ x ∷ []) b₁ (subst (λ Q. PoolRep n b₁ Q) (sym next) (call-agrees n few-pages rules ys b R x .pool)) in
       record {
-        answers = ap (λ (s : Said). s .answer ∷ saidFrom poolCall (s .book) xs) e ∙ ap (λ (zs : List PoolAnswer). onCall n b x .answer ∷ zs) (ih .answers);
-        book = ap (λ (s : Said). bookFrom poolCall (s .book) xs) e ∙ ih .book;
+        answers = ap (λ (s : PoolReply). s .answer ∷ poolAnswersFrom poolCall (s .book) xs) e ∙ ap (λ (zs : List PoolAnswer). onCall n b x .answer ∷ zs) (ih .answers);
+        book = ap (λ (s : PoolReply). bookFrom poolCall (s .book) xs) e ∙ ih .book;
       }
 
 module _ (n : ℕ) (rows b : List ℕ) (o : Opens n rows b) (xs : List PoolCall) where
@@ -83,7 +83,7 @@ module _ (n : ℕ) (rows b : List ℕ) (o : Opens n rows b) (xs : List PoolCall)
   pub run-is : poolRun n rows b xs ≡ map (λ v. v .answer) (poolEvents n (rulesOf rows) xs)
   run-is =
       whole .answers
-      ∙ ap (λ (d : List ℕ). saidFrom (onCall n) d xs) (opened-by n rows b o)
+      ∙ ap (λ (d : List ℕ). poolAnswersFrom (onCall n) d xs) (opened-by n rows b o)
       ∙ pool-runs n (room n rows b o .few-pages) (rulesOf rows) fit b long xs .answers
 
   pub pool-rep : PoolRep n (poolBook n rows b xs) (poolAfter n (rulesOf rows) xs)
@@ -92,11 +92,11 @@ module _ (n : ℕ) (rows b : List ℕ) (o : Opens n rows b) (xs : List PoolCall)
       (pool-runs n (room n rows b o .few-pages) (rulesOf rows) fit b long xs .book)
 
 -- ---- what is told
-heard-is : (n : ℕ) (P : Pool) (xs : List PoolCall) (zs : List PoolAnswer) → zs ≡ map (λ v. v .answer) (poolEventsFrom n P xs) → toldOf (heard xs zs) ≡ bare (toldOf (poolEventsFrom n P xs))
-heard-is n P [] zs e = refl
-heard-is n P (x ∷ xs) [] e = cc
-heard-is n P (x ∷ xs) (a ∷ zs) e =
-    ap₂ (λ (a : PoolAnswer) (vs : List Event). told (record { call = x; answer = a; run = none }) ∷ vs) (head-eq-of-cons-eq e) (heard-is n (poolStep n P x .pool) xs zs (tail-eq-of-cons-eq e))
+recorded-is : (n : ℕ) (P : Pool) (xs : List PoolCall) (zs : List PoolAnswer) → zs ≡ map (λ v. v .answer) (poolEventsFrom n P xs) → observedOf (recorded xs zs) ≡ bare (observedOf (poolEventsFrom n P xs))
+recorded-is n P [] zs e = refl
+recorded-is n P (x ∷ xs) [] e = cc
+recorded-is n P (x ∷ xs) (a ∷ zs) e =
+    ap₂ (λ (a : PoolAnswer) (vs : List Event). observed (record { call = x; answer = a; run = none }) ∷ vs) (head-eq-of-cons-eq e) (recorded-is n (poolStep n P x .pool) xs zs (tail-eq-of-cons-eq e))
 
-pub told-is : (n : ℕ) (rows b : List ℕ) → Opens n rows b → (xs : List PoolCall) → poolTold n rows b xs ≡ bare (toldOf (poolEvents n (rulesOf rows) xs))
-told-is n rows b o xs = heard-is n (newPool (rulesOf rows)) xs (poolRun n rows b xs) (run-is n rows b o xs)
+pub observed-is : (n : ℕ) (rows b : List ℕ) → Opens n rows b → (xs : List PoolCall) → poolObserved n rows b xs ≡ bare (observedOf (poolEvents n (rulesOf rows) xs))
+observed-is n rows b o xs = recorded-is n (newPool (rulesOf rows)) xs (poolRun n rows b xs) (run-is n rows b o xs)

@@ -35,8 +35,8 @@ use Rattle.refinement.proofs.ArenaReached.{heap-next, reached-after}
 use Rattle.refinement.proofs.Book.{setting-of}
 use Rattle.refinement.proofs.Found.{out-here}
 use Rattle.refinement.proofs.Whole.{call-whole}
-use Rattle.pool.specs.Pool.{Pool, newPool, PoolCall, PoolAnswer, Wish, to, alloc, free, trim, callBy, poolStep, noBlock}
-use Rattle.pool.specs.Told.{PoolEvent, toldOf, poolEvents, poolEventsFrom, poolAfter, heapCalls, poolAnswersOf, isOf}
+use Rattle.pool.specs.Pool.{Pool, newPool, PoolCall, PoolAnswer, PoolRequest, to, alloc, free, trim, callBy, poolStep, noBlock}
+use Rattle.pool.specs.Observed.{PoolEvent, observedOf, poolEvents, poolEventsFrom, poolAfter, heapCalls, poolAnswersOf, isOf}
 use Rattle.pool.specs.way.Claims.{answerTo}
 use Rattle.pool.proofs.Apart.{pool-disjoint}
 use Rattle.pool.proofs.Frees.{frees, unchanged}
@@ -53,17 +53,17 @@ use Rattle.poolcalls.specs.HeapWords.{heapWord}
 use Rattle.poolrefinement.proofs.Whole.{pool-agrees}
 use Rattle.poolrefinement.proofs.Frame.{heap-frame, words-changes, represents-still}
 use Rattle.poolrefinement.proofs.Stocks.{stocked-is, stock-still}
-use Rattle.poolrefinement.proofs.Wishes.{kind-word}
+use Rattle.poolrefinement.proofs.Requests.{kind-word}
 use Rattle.poolrefinement.proofs.Runs.{stands}
 use Rattle.demands.specs.Call.{call}
 use Rattle.demands.specs.Run.{Opens, bookAfter}
 use Rattle.demands.specs.way.PoolStands.{PoolStands}
-use Rattle.demands.specs.Pool.{poolRun, poolBook, heard, poolHeard, poolTold, FreeAnswers, TrimAnswers, PoolAt, PoolDemand}
+use Rattle.demands.specs.Pool.{poolRun, poolBook, recorded, poolRecorded, poolObserved, FreeAnswers, TrimAnswers, PoolAt, PoolDemand}
 use Rattle.demands.proofs.Calls.{room, no-fault, call-is}
 use Rattle.demands.proofs.Histories.{run-represents}
-use Rattle.demands.proofs.Told.{bare, bare-live, live-bare, bare-disjoint}
-use Rattle.demands.proofs.PoolRuns.{ask-is, run-is, pool-rep, told-is}
-use Rattle.demands.proofs.PoolLook.{out-low, granted-class, stocked-rep, few-rep}
+use Rattle.demands.proofs.Observed.{bare, bare-live, live-bare, bare-disjoint}
+use Rattle.demands.proofs.PoolRuns.{ask-is, run-is, pool-rep, observed-is}
+use Rattle.demands.proofs.PoolQuery.{out-low, granted-class, stocked-rep, few-rep}
 
 -- a block out, told with and without the runs
 out-bare : (vs : List Event) (c w : ℕ) → OutIn vs c w → OutIn (bare vs) c w
@@ -108,7 +108,7 @@ module _ (n : ℕ) (rows b : List ℕ) (o : Opens n rows b) (xs : List PoolCall)
   made = heapCalls n (rulesOf rows) xs
 
   abbrev vs : List Event
-  vs = toldOf (poolEvents n (rulesOf rows) xs)
+  vs = observedOf (poolEvents n (rulesOf rows) xs)
 
   few : n ≤ maxPages
   few = room n rows b o .few-pages
@@ -119,20 +119,20 @@ module _ (n : ℕ) (rows b : List ℕ) (o : Opens n rows b) (xs : List PoolCall)
   heap : Represents n d (heapAfter n (rulesOf rows) made)
   heap = stands n few (rulesOf rows) xs d rep
 
-  -- a wish is answered as the model's
-  answer-is : (c : ℕ) (x : Wish) → poolOn d c x .answer ≡ answerTo n (rulesOf rows) xs c x
+  -- a request is answered as the model's
+  answer-is : (c : ℕ) (x : PoolRequest) → poolOn d c x .answer ≡ answerTo n (rulesOf rows) xs c x
   answer-is c x = ap (λ s. s .answer) (ask-is n (room n rows b o .some-pages) few d P rep c x) ∙ pool-agrees n few (rulesOf rows) xs d rep c x .answer
 
   call-reply : (y : Call) → call d y ≡ callReply n d y
   call-reply y = call-is n d (room n rows b o .some-pages) few (heapAfter n (rulesOf rows) made) heap y
 
-  out-in : (c w : ℕ) → OutIn vs c w → OutIn (poolTold n rows b xs) c w
-  out-in c w u = rw (told-is n rows b o xs) (out-bare vs c w u)
+  out-in : (c w : ℕ) → OutIn vs c w → OutIn (poolObserved n rows b xs) c w
+  out-in c w u = rw (observed-is n rows b o xs) (out-bare vs c w u)
 
-  in-out : (c w : ℕ) → OutIn (poolTold n rows b xs) c w → OutIn vs c w
-  in-out c w u = bare-out vs c w (rw (told-is n rows b o xs) at u)
+  in-out : (c w : ℕ) → OutIn (poolObserved n rows b xs) c w → OutIn vs c w
+  in-out c w u = bare-out vs c w (rw (observed-is n rows b o xs) at u)
 
-  free-answers : (c h w : ℕ) → FreeAnswers d (poolTold n rows b xs) c h w
+  free-answers : (c h w : ℕ) → FreeAnswers d (poolObserved n rows b xs) c h w
   free-answers c h w =
       let a = answer-is c (free h w) in
       let f = frees n few (rulesOf rows) xs c h w in
@@ -170,7 +170,7 @@ module _ (n : ℕ) (rows b : List ℕ) (o : Opens n rows b) (xs : List PoolCall)
   stock-test c w hc k = stocked-is n d c (granuleOf w) (P .stock c) (rep .stocks c hc) ∙ ap (λ v. elem v (P .stock c)) (sym (kind-word (shapeOf c .kind) w k))
 
   -- a grant is of its class's kind, since a free of it is no 9
-  grant-kind : (c w : ℕ) → ltb c classCount ≡ true → OutIn (poolTold n rows b xs) c w → ofKind (shapeOf c .kind) w ≡ true
+  grant-kind : (c w : ℕ) → ltb c classCount ≡ true → OutIn (poolObserved n rows b xs) c w → ofKind (shapeOf c .kind) w ≡ true
   grant-kind c w hc u =
       by-cases (ofKind (shapeOf c .kind) w) (λ k. k) (λ k.
       let f = free-answers c 0 w in
@@ -178,9 +178,9 @@ module _ (n : ℕ) (rows b : List ℕ) (o : Opens n rows b) (xs : List PoolCall)
       let no = f .kind refl hc k in
       let z : _≡_ {A = ℕ} 0 1 = cc in absurd (omega arith))
 
-  granted-told : (c w : ℕ) → (grantedOn d c w ≡ true) ↔ OutIn (poolTold n rows b xs) c w
+  granted-observed : (c w : ℕ) → (grantedOn d c w ≡ true) ↔ OutIn (poolObserved n rows b xs) c w
   unfolding grantedOn admits
-  granted-told c w =
+  granted-observed c w =
       let cons = conserved n few (rulesOf rows) xs in
       let sized : get d (arena size) ≡ n = heap .arena .length in (
         (λ g.
@@ -193,7 +193,7 @@ module _ (n : ℕ) (rows b : List ℕ) (o : Opens n rows b) (xs : List PoolCall)
               | inr s ↦ absurd (true≢false (sym (stock-test c w hc k ∙ s) ∙ not-true (stocked d c (granuleOf w)) (and-right (outAt n d c (shapeOf c) w) _ t)))
             ]),
         (λ u.
-            let hc = out-low (poolTold n rows b xs) c w u in
+            let hc = out-low (poolObserved n rows b xs) c w u in
             let k = grant-kind c w hc u in
             let v = in-out c w u in
             rw (no-fault n d (room n rows b o .some-pages) few (heapAfter n (rulesOf rows) made) heap, hc, k, sized, out-test c w hc k ∙ cons .out c w .1 (inl v), stock-test c w hc k ∙ cons .either c w v)),
@@ -213,24 +213,24 @@ module _ (n : ℕ) (rows b : List ℕ) (o : Opens n rows b) (xs : List PoolCall)
         top = λ w ws e. let v = t .top w ws (sym (stock-is c low) ∙ e) in (a ∙ v .0, after ∙ v .1);
       }
 
-  holds-after : PoolAt n rows d (poolTold n rows b xs) made
+  holds-after : PoolAt n rows d (poolObserved n rows b xs) made
   holds-after =
       let cons = conserved n few (rulesOf rows) xs in
       record {
-        disjoint = rw (told-is n rows b o xs) (bare-disjoint vs (pool-disjoint n few (rulesOf rows) xs));
+        disjoint = rw (observed-is n rows b o xs) (bare-disjoint vs (pool-disjoint n few (rulesOf rows) xs));
         frees = free-answers;
         none = none-answers;
         made-done = on-heap n few (rulesOf rows) xs .done;
         numbers = λ c x k e. unchanged n few (rulesOf rows) xs c x .low k (sym (answer-is c x) ∙ e);
-        fair = λ y e. call-whole n few (rulesOf rows) made d heap (callBy y) .fair (ap (λ r. r .code) (sym (call-reply (callBy y))) ∙ e);
+        valid = λ y e. call-whole n few (rulesOf rows) made d heap (callBy y) .valid (ap (λ r. r .code) (sym (call-reply (callBy y))) ∙ e);
         out = λ c w hc k. (
           (λ e. elim (cons .out c w .0 (sym (out-test c w hc k) ∙ e)) [ inl u ↦ inl (out-in c w u) | inr s ↦ inr (ap (elem w) (stock-is c hc) ∙ s) ]),
           (λ e. out-test c w hc k ∙ cons .out c w .1 (elim e [ inl u ↦ inl (in-out c w u) | inr s ↦ inr (sym (ap (elem w) (stock-is c hc)) ∙ s) ])),
         );
         either = λ c w hc u. ap (elem w) (stock-is c hc) ∙ cons .either c w (in-out c w u);
         once = λ c hc. ap distinct (stock-is c hc) ∙ cons .once c;
-        granted = granted-told;
-        class = λ c w u. granted-class d c w (granted-told c w .1 u);
+        granted = granted-observed;
+        class = λ c w u. granted-class d c w (granted-observed c w .1 u);
         stocked = λ c hc. stocked-rep n d c (P .stock c) (rep .stocks c hc) (admitted c hc);
         few = λ c hc. few-rep n d c (P .stock c) (rep .stocks c hc);
         trimmed = trim-answers;
@@ -271,23 +271,23 @@ module _ (n : ℕ) (rows b : List ℕ) (o : Opens n rows b) (xs : List PoolCall)
       (represents-still n d (heapAfter n (rulesOf rows) made) heap (reached-after n (rulesOf rows) made) e (words-changes d e l h)) heap
 
 -- ---- each class alone
-heard-answers : (c : ℕ) (xs : List PoolCall) (zs : List PoolAnswer) (es : List PoolEvent) → map (λ v. v .call) es ≡ xs → zs ≡ map (λ v. v .answer) es → poolAnswersOf c (heard xs zs) ≡ poolAnswersOf c es
-heard-answers c [] zs [] e f = refl
-heard-answers c [] zs (v ∷ es) e f = cc
-heard-answers c (x ∷ xs) zs [] e f = cc
-heard-answers c (x ∷ xs) [] (v ∷ es) e f = cc
-heard-answers c (x ∷ xs) (a ∷ zs) (v ∷ es) e f =
+recorded-answers : (c : ℕ) (xs : List PoolCall) (zs : List PoolAnswer) (es : List PoolEvent) → map (λ v. v .call) es ≡ xs → zs ≡ map (λ v. v .answer) es → poolAnswersOf c (recorded xs zs) ≡ poolAnswersOf c es
+recorded-answers c [] zs [] e f = refl
+recorded-answers c [] zs (v ∷ es) e f = cc
+recorded-answers c (x ∷ xs) zs [] e f = cc
+recorded-answers c (x ∷ xs) [] (v ∷ es) e f = cc
+recorded-answers c (x ∷ xs) (a ∷ zs) (v ∷ es) e f =
     let h : v .call ≡ x = head-eq-of-cons-eq e in
     let g : a ≡ v .answer = head-eq-of-cons-eq f in
-    let ih = heard-answers c xs zs es (tail-eq-of-cons-eq e) (tail-eq-of-cons-eq f) in
+    let ih = recorded-answers c xs zs es (tail-eq-of-cons-eq e) (tail-eq-of-cons-eq f) in
     rw h (by-cases (isOf c x) (λ t. rw (t, g) (ap (λ (l : List PoolAnswer). v .answer ∷ l) ih)) (λ t. rw t ih))
 
 events-calls : (n : ℕ) (P : Pool) (xs : List PoolCall) → map (λ v. v .call) (poolEventsFrom n P xs) ≡ xs
 events-calls n P [] = refl
 events-calls n P (x ∷ xs) = ap (λ (l : List PoolCall). x ∷ l) (events-calls n (poolStep n P x .pool) xs)
 
-answers-of : (n : ℕ) (rows b : List ℕ) → Opens n rows b → (c : ℕ) (xs : List PoolCall) → poolAnswersOf c (poolHeard n rows b xs) ≡ poolAnswersOf c (poolEvents n (rulesOf rows) xs)
-answers-of n rows b o c xs = heard-answers c xs (poolRun n rows b xs) (poolEvents n (rulesOf rows) xs) (events-calls n (newPool (rulesOf rows)) xs) (run-is n rows b o xs)
+answers-of : (n : ℕ) (rows b : List ℕ) → Opens n rows b → (c : ℕ) (xs : List PoolCall) → poolAnswersOf c (poolRecorded n rows b xs) ≡ poolAnswersOf c (poolEvents n (rulesOf rows) xs)
+answers-of n rows b o c xs = recorded-answers c xs (poolRun n rows b xs) (poolEvents n (rulesOf rows) xs) (events-calls n (newPool (rulesOf rows)) xs) (run-is n rows b o xs)
 
 pub pool-demand : PoolDemand
 pool-demand = record {

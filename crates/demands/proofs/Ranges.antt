@@ -15,24 +15,24 @@ use Rattle.classes.specs.declared.Shape.{Shape}
 use Rattle.classes.specs.Shape.{classCount}
 use Rattle.fields.specs.Field.{arena, class, hole, page, size, frontier, holes, holePages, held, start, pages, partial, empty, cold, free, carved, listed, get}
 use Rattle.fields.specs.Ranges.{maxParked}
-use Rattle.model.specs.Spot.{isArena}
+use Rattle.model.specs.Destination.{isArena}
 use Rattle.arena.specs.Load.{loadHoles}
-use Rattle.arena.specs.Fair.{recordFair, holeEndsFair, holesEndFair, holeFair, holesFair, commitFair, giveFair, growGives, growFair, countsFair, allCountsFair, reportFair}
+use Rattle.arena.specs.Valid.{recordValid, holeEndsValid, holesEndValid, holeValid, holesValid, commitValid, giveValid, growGives, growValid, countsValid, allCountsValid, reportValid}
 use Rattle.pages.specs.Runs.{ofRun, whole}
-use Rattle.pages.specs.Stack.{tops, latest, hasMore, indexOf}
+use Rattle.pages.specs.Stack.{topEntries, latest, hasMore, indexOf}
 use Rattle.pages.proofs.Draws.{latest-length}
 use Rattle.pages.specs.Links.{top, stored}
-use Rattle.pages.specs.Fair.{headerFair, linksFair}
+use Rattle.pages.specs.Valid.{headerValid, linksValid}
 use Rattle.pages.specs.declared.Park.{Park}
 use Rattle.pages.specs.declared.Park.the-variants.{Empty, Cold}
-use Rattle.calls.specs.Take.{pageReady, sound, walk, parkFair}
+use Rattle.calls.specs.Take.{pageReady, sound, walk, parkValid}
 use Rattle.calls.specs.Out.{startOf, outs, clean, unmarked}
-use Rattle.calls.specs.Release.{pageFair, rowFair, spotAt, spotFair, releaseFair}
-use Rattle.calls.specs.Chunks.{pagesGiven, chunksFair}
+use Rattle.calls.specs.Release.{pageValid, rowValid, destinationAt, destinationValid, releaseValid}
+use Rattle.calls.specs.Chunks.{pagesGiven, chunksValid}
 use Rattle.demands.specs.Ranges.{Link, partialOf, emptyOf, coldOf, nextOf, prevOf, linkField, Use, stateKnown, frontierFits, holesFew, holePagesFew, heldFits, holeEnds, code, visited, emptyFew, emptyTaken, coldFew, coldTaken, ownerIs, firstIs, prevIs, listedFlag, listedYes, listedNo, freeFits, markClear, freeWith, carvedFits, virginFlag, inRange, fits, strays, emptyLimited, coldLimited}
-use Rattle.poolcalls.specs.Calls.{countFair, topFair}
-use Rattle.demands.specs.Number13.{takeFair, Number13}
-use Rattle.demands.specs.Reads.{countReads, recordReads, holeReads, commitReads, giveReads, parkedReads, reportReads, runReads, entryReads, pageReads, walkReads, walkVisits, parkReads, takeReads, takeVisits, supply, yields, yieldAll, barren, markReads, backReads, rowReads, releaseReads, backsReads, chunksReads, besideReads, givenReads, growReads, stockReads, topReads}
+use Rattle.poolcalls.specs.Calls.{countValid, topValid}
+use Rattle.demands.specs.Number13.{takeValid, Number13}
+use Rattle.demands.specs.Reads.{countReads, recordReads, holeReads, commitReads, giveReads, parkedReads, reportReads, runReads, entryReads, pageReads, walkReads, walkVisits, parkReads, takeReads, takeVisits, supply, yields, yieldAll, barren, markReads, backReads, rowReads, releaseReads, backsReads, chunksReads, neighboursReads, givenReads, growReads, stockReads, topReads}
 use Rattle.demands.proofs.RefusalsLaws.{not-and}
 
 -- ---- conjunctions
@@ -61,8 +61,8 @@ hole-as : (x y z r : Bool) → ((y && (x && z)) && r) ≡ ((x && y) && (z && r))
 hole-as x y z r = simp sorts
 
 -- a hole that ends at f or below has at most f pages
-beside-as : (q m f : ℕ) (r : Bool) → ((leb 1 m && leb (q + m) f) && r) ≡ ((leb 1 m && leb m f) && (leb (q + m) f && r))
-beside-as q m f r =
+neighbours-as : (q m f : ℕ) (r : Bool) → ((leb 1 m && leb (q + m) f) && r) ≡ ((leb 1 m && leb m f) && (leb (q + m) f && r))
+neighbours-as q m f r =
     by-cases (leb (q + m) f)
     (λ e. let l = leb-true (q + m) f e in rw (e, le-leb m f (omega arith)) (simp and-assoc))
     (λ e. rw (e, and-false (leb 1 m), and-false (leb 1 m && leb m f)))
@@ -71,44 +71,44 @@ give-as : (s f h p l m r : Bool) → ((s && (f && (h && (p && l)))) && (m && r))
 give-as s f h p l m r = rw (and-true (m && l)) (simp sorts)
 
 module _ (b : List ℕ) where
-  record-ranges : recordFair (get b (arena size)) b ≡ fits b recordReads
-  unfolding recordFair fits recordReads countReads
+  record-ranges : recordValid (get b (arena size)) b ≡ fits b recordReads
+  unfolding recordValid fits recordReads countReads
   record-ranges = rw (and-true (inRange b heldFits))
 
-  holes-ranges : (i k : ℕ) → every (holeFair (get b (arena holePages)) (get b (arena frontier))) (loadHoles b i k) ≡ fits b (holeReads i k)
+  holes-ranges : (i k : ℕ) → every (holeValid (get b (arena holePages)) (get b (arena frontier))) (loadHoles b i k) ≡ fits b (holeReads i k)
   unfolding loadHoles holeReads fits
   holes-ranges i zero = refl
   holes-ranges i (suc k) = rw (holes-ranges (suc i) k) (hole-as (leb 1 (get b (hole pages i))) (leb (get b (hole pages i)) (get b (arena holePages))) (inRange b (holeEnds i)) (fits b (holeReads (suc i) k)))
 
-  commit-ranges : commitFair (get b (arena size)) b ≡ fits b (commitReads b)
-  unfolding commitFair commitReads holesFair
+  commit-ranges : commitValid (get b (arena size)) b ≡ fits b (commitReads b)
+  unfolding commitValid commitReads holesValid
   commit-ranges = rw (record-ranges, holes-ranges 0 (get b (arena holes)), fits-append)
 
-  beside-ranges : (i k : ℕ) → every (holeEndsFair (get b (arena frontier))) (loadHoles b i k) ≡ fits b (besideReads i k)
-  unfolding loadHoles besideReads fits
-  beside-ranges i zero = refl
-  beside-ranges i (suc k) = rw (beside-ranges (suc i) k) (beside-as (get b (hole start i)) (get b (hole pages i)) (get b (arena frontier)) (fits b (besideReads (suc i) k)))
+  neighbours-ranges : (i k : ℕ) → every (holeEndsValid (get b (arena frontier))) (loadHoles b i k) ≡ fits b (neighboursReads i k)
+  unfolding loadHoles neighboursReads fits
+  neighbours-ranges i zero = refl
+  neighbours-ranges i (suc k) = rw (neighbours-ranges (suc i) k) (neighbours-as (get b (hole start i)) (get b (hole pages i)) (get b (arena frontier)) (fits b (neighboursReads (suc i) k)))
 
-  given-as : (m : ℕ) (r : Bool) → (recordFair (get b (arena size)) b && (leb m (get b (arena held)) && r)) ≡ (fits b (givenReads m) && r)
-  unfolding recordFair fits givenReads countReads
+  given-as : (m : ℕ) (r : Bool) → (recordValid (get b (arena size)) b && (leb m (get b (arena held)) && r)) ≡ (fits b (givenReads m) && r)
+  unfolding recordValid fits givenReads countReads
   given-as m r =
       give-as (inRange b stateKnown) (inRange b frontierFits) (inRange b holesFew) (inRange b holePagesFew) (inRange b heldFits) (leb m (get b (arena held))) r
 
-  give-ranges : (m : ℕ) → giveFair (get b (arena size)) b m ≡ fits b (giveReads b m)
-  unfolding giveFair giveReads holesEndFair
-  give-ranges m = rw (given-as m (every (holeEndsFair (get b (arena frontier))) (loadHoles b 0 (get b (arena holes)))), beside-ranges 0 (get b (arena holes)), fits-append)
+  give-ranges : (m : ℕ) → giveValid (get b (arena size)) b m ≡ fits b (giveReads b m)
+  unfolding giveValid giveReads holesEndValid
+  give-ranges m = rw (given-as m (every (holeEndsValid (get b (arena frontier))) (loadHoles b 0 (get b (arena holes)))), neighbours-ranges 0 (get b (arena holes)), fits-append)
 
-  grow-ranges : (h e m : ℕ) → growFair (get b (arena size)) b h e m ≡ fits b (growReads b h e m)
-  unfolding growFair growReads holesEndFair
-  grow-ranges h e m = rw (record-ranges, beside-ranges 0 (get b (arena holes)), fits-append) (ap (λ (t : Bool). fits b recordReads && t) (fits-if b (growGives (get b (arena size)) b h e m) (besideReads 0 (get b (arena holes)))))
+  grow-ranges : (h e m : ℕ) → growValid (get b (arena size)) b h e m ≡ fits b (growReads b h e m)
+  unfolding growValid growReads holesEndValid
+  grow-ranges h e m = rw (record-ranges, neighbours-ranges 0 (get b (arena holes)), fits-append) (ap (λ (t : Bool). fits b recordReads && t) (fits-if b (growGives (get b (arena size)) b h e m) (neighboursReads 0 (get b (arena holes)))))
 
-  parked-ranges : (cs : List ℕ) → every (countsFair b) cs ≡ fits b (parkedReads cs)
+  parked-ranges : (cs : List ℕ) → every (countsValid b) cs ≡ fits b (parkedReads cs)
   unfolding fits parkedReads
   parked-ranges [] = refl
   parked-ranges (c ∷ cs) = rw (parked-ranges cs) (and-assoc (inRange b (emptyFew c)) (inRange b (coldFew c)) (fits b (parkedReads cs)))
 
-  report-ranges : reportFair (get b (arena size)) b ≡ fits b reportReads
-  unfolding reportFair allCountsFair reportReads
+  report-ranges : reportValid (get b (arena size)) b ≡ fits b reportReads
+  unfolding reportValid allCountsValid reportReads
   report-ranges = rw (record-ranges, parked-ranges (below classCount), fits-append)
 
 -- ---- marks
@@ -130,19 +130,19 @@ row-as : (p e f c k l m : Bool) → (p && ((e && f) && ((c && k) && (l && m)))) 
 row-as p e f c k l m = rw (and-true m, and-assoc e f ((c && k) && (l && m)), and-assoc c k (l && m))
 
 module _ (b : List ℕ) (c : ℕ) (sh : Shape) where
-  back-ranges : (m q : ℕ) → pageFair b sh m q ≡ fits b (backReads b sh m q)
-  unfolding pageFair headerFair fits backReads
+  back-ranges : (m q : ℕ) → pageValid b sh m q ≡ fits b (backReads b sh m q)
+  unfolding pageValid headerValid fits backReads
   back-ranges m q =
       rw (every-cond, and-true (inRange b (code (prevOf q))))
-      (back-as (inRange b (carvedFits q (sh .capacity))) (inRange b (freeWith q m)) (inRange b (virginFlag q)) (inRange b (listedFlag q)) (linksFair b q))
+      (back-as (inRange b (carvedFits q (sh .capacity))) (inRange b (freeWith q m)) (inRange b (virginFlag q)) (inRange b (listedFlag q)) (linksValid b q))
 
-  row-ranges : rowFair b c ≡ fits b (rowReads c)
-  unfolding rowFair fits rowReads
+  row-ranges : rowValid b c ≡ fits b (rowReads c)
+  unfolding rowValid fits rowReads
   row-ranges =
       row-as (inRange b (code (partialOf c))) (inRange b (code (emptyOf c))) (inRange b (emptyFew c)) (inRange b (code (coldOf c))) (inRange b (coldFew c))
       (inRange b (emptyLimited c)) (inRange b (coldLimited c))
 
-  given-ranges : (t : Bool) (m : ℕ) → cond t (giveFair (get b (arena size)) b m) true ≡ fits b (cond t (giveReads b m) [])
+  given-ranges : (t : Bool) (m : ℕ) → cond t (giveValid (get b (arena size)) b m) true ≡ fits b (cond t (giveReads b m) [])
   given-ranges true m = give-ranges b m
   given-ranges false m = fits-none b
 
@@ -150,29 +150,29 @@ module _ (b : List ℕ) (c : ℕ) (sh : Shape) where
   unfolding fits
   first-use us = refl
 
-  release-ranges : (m q : ℕ) → releaseFair (get b (arena size)) b c sh m q ≡ fits b (releaseReads b c sh m q)
-  unfolding releaseFair spotFair releaseReads
+  release-ranges : (m q : ℕ) → releaseValid (get b (arena size)) b c sh m q ≡ fits b (releaseReads b c sh m q)
+  unfolding releaseValid destinationValid releaseReads
   release-ranges m q =
       rw (
         back-ranges m q,
         row-ranges,
-        given-ranges (eqb (get b (page free q) + m) (get b (page carved q)) && isArena (spotAt b c sh)) (sh .pages),
+        given-ranges (eqb (get b (page free q) + m) (get b (page carved q)) && isArena (destinationAt b c sh)) (sh .pages),
         first-use,
         fits-append,
         fits-append,
       )
 
-  backs-ranges : (gs : List ℕ) → every (λ g. pageFair b sh (countOf g) (pageOf g)) gs ≡ fits b (backsReads b sh gs)
+  backs-ranges : (gs : List ℕ) → every (λ g. pageValid b sh (countOf g) (pageOf g)) gs ≡ fits b (backsReads b sh gs)
   unfolding backsReads
   backs-ranges [] = fits-none b
   backs-ranges (g ∷ gs) = rw (back-ranges (countOf g) (pageOf g), fits-append, backs-ranges gs)
 
-  nothing-given : (t : Bool) (m : ℕ) → cond t true (giveFair (get b (arena size)) b m) ≡ fits b (cond t [] (giveReads b m))
+  nothing-given : (t : Bool) (m : ℕ) → cond t true (giveValid (get b (arena size)) b m) ≡ fits b (cond t [] (giveReads b m))
   nothing-given true m = fits-none b
   nothing-given false m = give-ranges b m
 
-  chunks-ranges : (gs : List ℕ) → chunksFair (get b (arena size)) b c sh gs ≡ fits b (chunksReads b c sh gs)
-  unfolding chunksFair chunksReads
+  chunks-ranges : (gs : List ℕ) → chunksValid (get b (arena size)) b c sh gs ≡ fits b (chunksReads b c sh gs)
+  unfolding chunksValid chunksReads
   chunks-ranges gs =
       rw (
         backs-ranges gs,
@@ -234,7 +234,7 @@ module _ (b : List ℕ) (c : ℕ) (sh : Shape) where
   unfolding fits
   use-more u us = refl
 
-  entry-ranges : (q m t : ℕ) → every (λ i. ltb i (get b (page carved q))) (tops b q m t) ≡ fits b (entryReads q m t)
+  entry-ranges : (q m t : ℕ) → every (λ i. ltb i (get b (page carved q))) (topEntries b q m t) ≡ fits b (entryReads q m t)
   unfolding entryReads fits
   entry-ranges q zero t = refl
   entry-ranges q (suc m) zero = refl
@@ -252,7 +252,7 @@ module _ (b : List ℕ) (c : ℕ) (sh : Shape) where
     page-ranges : (f : Link) (l : ℕ) (on : Use) (m : ℕ)
         → inRange b on ≡ eqb (get b (page listed (get b (linkField f) - 1))) l
         → sound n b c sh l m (get b (linkField f) - 1) ≡ (fits b (pageReads b c sh f on m) && yields b sh (get b (linkField f) - 1))
-    unfolding sound pageReady headerFair pageReads
+    unfolding sound pageReady headerValid pageReads
     page-ranges f l on m e =
         let q = get b (linkField f) - 1 in
         rw (whole-as q, more b sh q, entry-ranges q m (get b (page free q)), page-uses f on (freeFits q) (carvedFits q (sh .capacity)) (virginFlag q) (runReads c q (below (sh .pages))) (entryReads q m (get b (page free q))), e, add-zero)
@@ -284,8 +284,8 @@ module _ (b : List ℕ) (c : ℕ) (sh : Shape) where
     park-ranges : (p : Park) (f : Link) (count : Use)
         → get b (linkField f) ≡ get b (class (top p) c)
         → inRange b count ≡ (leb 1 (get b (class (stored p) c)) && leb (get b (class (stored p) c)) maxParked)
-        → parkFair n b c sh p ≡ (fits b (parkReads b c sh f count) && (yields b sh (get b (linkField f) - 1) && true))
-    unfolding parkFair parkReads
+        → parkValid n b c sh p ≡ (fits b (parkReads b c sh f count) && (yields b sh (get b (linkField f) - 1) && true))
+    unfolding parkValid parkReads
     park-ranges p f count e i =
         let q = get b (linkField f) - 1 in
         rw (
@@ -305,8 +305,8 @@ none-fits : (v f : ℕ) → not (eqb v 0) ≡ false → leb v f ≡ true
 none-fits v f e = le-leb v f (omega (arith, eqb-true v 0 (by-cases (eqb v 0) (λ i. i) (λ i. let z : _≡_ {A = ℕ} 0 1 = cc in absurd (omega arith)))))
 
 module _ (b : List ℕ) (c : ℕ) (sh : Shape) where
-  source-ranges : leb (get b (arena frontier)) (get b (arena size)) ≡ true → takeFair (get b (arena size)) b c sh ≡ (fits b (takeReads b c sh) && yieldAll b c sh)
-  unfolding takeFair takeReads yieldAll takeVisits
+  source-ranges : leb (get b (arena frontier)) (get b (arena size)) ≡ true → takeValid (get b (arena size)) b c sh ≡ (fits b (takeReads b c sh) && yieldAll b c sh)
+  unfolding takeValid takeReads yieldAll takeVisits
   source-ranges low =
       let n = get b (arena size) in
       let f = get b (arena frontier) in
@@ -322,18 +322,18 @@ module _ (b : List ℕ) (c : ℕ) (sh : Shape) where
       (λ e. rw (e, park-ranges b c sh n h Cold (coldOf c) (coldTaken c) refl refl))
       (λ e. rw (e, use-more b c sh (code (coldOf c)), none-fits (get b (class cold c)) f e, commit-ranges b, and-true)))))))
 
-  take-ranges : takeFair (get b (arena size)) b c sh ≡ (fits b (takeReads b c sh) && yieldAll b c sh)
-  unfolding takeFair takeReads
+  take-ranges : takeValid (get b (arena size)) b c sh ≡ (fits b (takeReads b c sh) && yieldAll b c sh)
+  unfolding takeValid takeReads
   take-ranges = by-cases (leb (get b (arena frontier)) (get b (arena size))) source-ranges (λ e. rw (use-more b c sh frontierFits, e))
 
 -- ---- the pool
 module _ (b : List ℕ) (c : ℕ) where
-  stock-ranges : countFair b c ≡ fits b (stockReads c)
-  unfolding countFair fits stockReads
+  stock-ranges : countValid b c ≡ fits b (stockReads c)
+  unfolding countValid fits stockReads
   stock-ranges = rw and-true
 
-  top-ranges : topFair (get b (arena size)) b c ≡ fits b (topReads b c)
-  unfolding topFair countFair fits topReads
+  top-ranges : topValid (get b (arena size)) b c ≡ fits b (topReads b c)
+  unfolding topValid countValid fits topReads
   top-ranges = rw and-true
 
 -- ---- the table
@@ -353,24 +353,24 @@ number-13 b = record {
 
 -- ---- for each call: its test fails exactly where a word that it reads is out of its range, or a listed page yields no block
 module _ (b : List ℕ) where
-  pub commit-strays : not (commitFair (get b (arena size)) b) ≡ strays b (commitReads b)
+  pub commit-strays : not (commitValid (get b (arena size)) b) ≡ strays b (commitReads b)
   unfolding strays
   commit-strays = ap not (commit-ranges b)
 
-  pub give-strays : (m : ℕ) → not (giveFair (get b (arena size)) b m) ≡ strays b (giveReads b m)
+  pub give-strays : (m : ℕ) → not (giveValid (get b (arena size)) b m) ≡ strays b (giveReads b m)
   unfolding strays
   give-strays m = ap not (give-ranges b m)
 
-  pub grow-strays : (h e m : ℕ) → not (growFair (get b (arena size)) b h e m) ≡ strays b (growReads b h e m)
+  pub grow-strays : (h e m : ℕ) → not (growValid (get b (arena size)) b h e m) ≡ strays b (growReads b h e m)
   unfolding strays
   grow-strays h e m = ap not (grow-ranges b h e m)
 
-  pub report-strays : not (reportFair (get b (arena size)) b) ≡ strays b reportReads
+  pub report-strays : not (reportValid (get b (arena size)) b) ≡ strays b reportReads
   unfolding strays
   report-strays = ap not (report-ranges b)
 
   module _ (c : ℕ) (sh : Shape) where
-    pub take-strays : not (takeFair (get b (arena size)) b c sh) ≡ (strays b (takeReads b c sh) || barren b c sh)
+    pub take-strays : not (takeValid (get b (arena size)) b c sh) ≡ (strays b (takeReads b c sh) || barren b c sh)
     unfolding strays barren
     take-strays = ap not (take-ranges b c sh) ∙ not-and (fits b (takeReads b c sh)) (yieldAll b c sh)
 
@@ -378,14 +378,14 @@ module _ (b : List ℕ) where
     unfolding strays
     marks-strays ws = ap not (marks-ranges b c sh ws)
 
-    pub release-strays : (m q : ℕ) → not (releaseFair (get b (arena size)) b c sh m q) ≡ strays b (releaseReads b c sh m q)
+    pub release-strays : (m q : ℕ) → not (releaseValid (get b (arena size)) b c sh m q) ≡ strays b (releaseReads b c sh m q)
     unfolding strays
     release-strays m q = ap not (release-ranges b c sh m q)
 
-    pub chunks-strays : (gs : List ℕ) → not (chunksFair (get b (arena size)) b c sh gs) ≡ strays b (chunksReads b c sh gs)
+    pub chunks-strays : (gs : List ℕ) → not (chunksValid (get b (arena size)) b c sh gs) ≡ strays b (chunksReads b c sh gs)
     unfolding strays
     chunks-strays gs = ap not (chunks-ranges b c sh gs)
 
-    pub top-strays : not (topFair (get b (arena size)) b c) ≡ strays b (topReads b c)
+    pub top-strays : not (topValid (get b (arena size)) b c) ≡ strays b (topReads b c)
     unfolding strays
     top-strays = ap not (top-ranges b c)

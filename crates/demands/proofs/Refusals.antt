@@ -36,7 +36,7 @@ use Rattle.demands.specs.Refusals.{Row, firstNumber, checkingOrder, inOr
 use Rattle.demands.proofs.RefusalsLaws.{Ends, book-turn}
 use Rattle.demands.proofs.TraceRefusals.{trace-refuses}
 use Rattle.demands.proofs.RefusalsCalls.{open-table, commit-table, grow-table, give-table, report-table, take-table, release-table, chunks-table, rate-table, game-table, listing-table}
-use Rattle.pages.proofs.Downs.{digit-le}
+use Rattle.pages.proofs.Descending.{digit-le}
 
 -- ---- the answer's number is the definition's, and where it is one, the out-parameters stay as they were
 commit-number : (k : ℕ) (q : Option ℕ) (f : Bool) → commitCode (answerOf k q f) ≡ k
@@ -168,7 +168,7 @@ module _ (b : List ℕ) (o k : ℕ) where
     where
       yes : containsOn b o k ≡ true → ContainedIn b o k
       yes e = record {
-        fair = by-cases (eqb (firstNumber (containsTable b)) 0) (λ z. eqb-true (firstNumber (containsTable b)) 0 z) (λ z. absurd (true≢false (sym e ∙ contains-no (λ y. eqb-false (firstNumber (containsTable b)) 0 z y))));
+        valid = by-cases (eqb (firstNumber (containsTable b)) 0) (λ z. eqb-true (firstNumber (containsTable b)) 0 z) (λ z. absurd (true≢false (sym e ∙ contains-no (λ y. eqb-false (firstNumber (containsTable b)) 0 z y))));
         within = by-cases (eqb (metaFault b) 0) (λ z. contained-exactly (get b (arena size)) o k (loadArena b) .0 (rw z at e)) (λ z. absurd (true≢false (sym (rw z at e))));
       }
 
@@ -176,7 +176,7 @@ module _ (b : List ℕ) (o k : ℕ) where
       no c =
           by-cases (eqb (metaFault b) 0)
           (λ z. rw z (contained-exactly (get b (arena size)) o k (loadArena b) .1 (c .within)))
-          (λ z. absurd (eqb-false (metaFault b) 0 z (rw z at (row-first ∙ c .fair))))
+          (λ z. absurd (eqb-false (metaFault b) 0 z (rw z at (row-first ∙ c .valid))))
 
 pub digit-one : (t : Bool) → digit t ≡ 1 → t ≡ true
 digit-one true e = refl

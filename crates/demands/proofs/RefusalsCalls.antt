@@ -24,17 +24,17 @@ use Rattle.fields.specs.Outcome as Fields
 use Rattle.fields.specs.Ranges.{metaFault, lengthFault}
 use Rattle.model.specs.Heap.{badRun, badGrowth}
 use Rattle.model.specs.Release.{ofKind}
-use Rattle.arena.specs.Fair.{commitFair, giveFair, growFair, reportFair}
+use Rattle.arena.specs.Valid.{commitValid, giveValid, growValid, reportValid}
 use Rattle.arena.specs.Calls as Arena
 use Rattle.arena.specs.Calls.{Committed, commitRefused, commitFor, commitCall, Done, doneRefused, growCall}
 use Rattle.pages.specs.declared.Park.{Park}
 use Rattle.pages.specs.declared.Park.the-variants.{Empty, Cold}
 use Rattle.pages.specs.Stack.{indexOf}
-use Rattle.calls.specs.Take.{Took, tookNone, walk, parkFair, fromPartial, fromPark, onRun, takeNew, takeBlocks, takeCall}
+use Rattle.calls.specs.Take.{Took, tookNone, walk, parkValid, fromPartial, fromPark, onRun, takeNew, takeBlocks, takeCall}
 use Rattle.calls.specs.Release as Back
 use Rattle.calls.specs.Out.{startOf, outAt, unmarked, repeats, outFault}
-use Rattle.calls.specs.Release.{releasedNone, firstOf, giveBackAt, lastStep, releaseFair, releaseBlocks}
-use Rattle.calls.specs.Chunks.{ChunksReleased, chunksNone, chunksFair, releaseChunks}
+use Rattle.calls.specs.Release.{releasedNone, firstOf, giveBackAt, lastStep, releaseValid, releaseBlocks}
+use Rattle.calls.specs.Chunks.{ChunksReleased, chunksNone, chunksValid, releaseChunks}
 use Rattle.direct.specs.declared.Report.{Report}
 use Rattle.direct.specs.Answer.{reportOf}
 use Rattle.vigbuso.specs.Faults.{callFault, classFault}
@@ -44,7 +44,7 @@ use Rattle.vigbuso.specs.Blocks as Blocks
 use Rattle.vigbuso.specs.Blocks.{takeOn, chunksOn}
 use Rattle.trace.proofs.Refused.{give-zero}
 use Rattle.demands.specs.Refusals.{shortList, nothingListed, manyChunks, wrongKind, otherPage, chunksDiffer, notHeld, openTable, commitTable, growTable, giveTable, reportTable, takeTable, releaseTable, chunksTable, rateTable, gameTable, listingTable}
-use Rattle.demands.specs.Number13.{takeFair}
+use Rattle.demands.specs.Number13.{takeValid}
 use Rattle.demands.proofs.Ranges.{commit-strays, give-strays, report-strays, take-strays, marks-strays, release-strays, chunks-strays, grow-strays}
 use Rattle.demands.proofs.RefusalsLaws.{not-and, le-not-lt, Ends, ends, turn, unless, out-turn, book-turn, chain, choose, before}
 
@@ -77,7 +77,7 @@ commit-table b h m =
     (book-turn _ _ _ (commitRefused b) _ (λ k. refl) (λ k. refl)
     (turn _ _ (badHost h) 3 _ _ _ refl refl λ e.
     turn _ _ (badRun m) 6 _ _ _ refl refl λ e.
-    unless _ _ (commitFair (get b (arena size)) b) 13 _ _ _ refl refl λ e.
+    unless _ _ (commitValid (get b (arena size)) b) 13 _ _ _ refl refl λ e.
     ends _ _ _ refl)
     (get b (arena size))
     b)
@@ -90,7 +90,7 @@ grow-table b h q old new =
     (turn _ _ (badHost h) 3 _ _ _ refl refl λ e.
     turn _ _ (badGrowth old new) 6 _ _ _ refl refl λ e.
     turn _ _ (notHeld (get b (arena size)) b q old) 12 _ _ _ refl refl λ e.
-    turn _ _ (not (growFair (get b (arena size)) b h (q + old) (new - old))) 13 _ _ _ refl refl λ e.
+    turn _ _ (not (growValid (get b (arena size)) b h (q + old) (new - old))) 13 _ _ _ refl refl λ e.
     ends _ _ _ refl)
     (get b (arena size))
     b)
@@ -103,7 +103,7 @@ give-table b h q m =
     (turn _ _ (badHost h) 3 _ _ _ refl refl λ e.
     turn _ _ (badRun m) 6 _ _ _ refl refl λ e.
     turn _ _ (notHeld (get b (arena size)) b q m) 12 _ _ _ refl refl λ e.
-    turn _ _ (not (giveFair (get b (arena size)) b m)) 13 _ _ _ refl refl λ e.
+    turn _ _ (not (giveValid (get b (arena size)) b m)) 13 _ _ _ refl refl λ e.
     ends _ _ _ refl)
     (get b (arena size))
     b)
@@ -113,7 +113,7 @@ unfolding reportOn metaFault reportOf
 report-table b fs =
     rw (← (report-strays b))
     (book-turn _ _ _ Report.Refused _ (λ k. refl) (λ k. refl)
-    (unless _ _ (reportFair (get b (arena size)) b) 13 _ _ _ refl refl λ e.
+    (unless _ _ (reportValid (get b (arena size)) b) 13 _ _ _ refl refl λ e.
     ends _ _ _ refl)
     (get b (arena size))
     b)
@@ -121,30 +121,30 @@ report-table b fs =
 -- ---- takes
 module _ (n : ℕ) (b : List ℕ) (c : ℕ) (sh : Shape) (h : ℕ) (l : List ℕ) where
   abbrev pub takeRow : Bool → Took → Type 0
-  takeRow fair t = Ends {R = Took} (λ t. t .code) (λ t. (t .book ≡ b) × (t .list ≡ l)) ((13, not fair) ∷ []) t
+  takeRow valid t = Ends {R = Took} (λ t. t .code) (λ t. (t .book ≡ b) × (t .list ≡ l)) ((13, not valid) ∷ []) t
 
   partial-row : takeRow (walk n b c sh (sh .batch) (sh .batch) (get b (class partial c)) 0) (fromPartial n b c sh l)
   unfolding fromPartial
   partial-row = unless _ _ (walk n b c sh (sh .batch) (sh .batch) (get b (class partial c)) 0) 13 _ _ _ refl (refl, refl) λ e. ends _ _ _ refl
 
-  park-row : (k : Park) → takeRow (parkFair n b c sh k) (fromPark n b c sh k l)
+  park-row : (k : Park) → takeRow (parkValid n b c sh k) (fromPark n b c sh k l)
   unfolding fromPark
-  park-row k = unless _ _ (parkFair n b c sh k) 13 _ _ _ refl (refl, refl) λ e. ends _ _ _ refl
+  park-row k = unless _ _ (parkValid n b c sh k) 13 _ _ _ refl (refl, refl) λ e. ends _ _ _ refl
 
   run-code : (b′ : List ℕ) (r : Option ℕ) → onRun b′ c sh l r .code ≡ 0
   unfolding onRun
   run-code b′ none = refl
   run-code b′ (some q) = refl
 
-  new-row : takeRow (commitFair n b) (takeNew n b c sh h l)
+  new-row : takeRow (commitValid n b) (takeNew n b c sh h l)
   unfolding takeNew commitFor
   new-row =
-      by-cases (commitFair n b)
+      by-cases (commitValid n b)
       (λ e. rw e (record { number = run-code _ _; kept = λ d. absurd (d (run-code _ _)) }))
       (λ e. rw e (record { number = refl; kept = λ d. (refl, refl) }))
 
-  pub take-row : takeRow (takeFair n b c sh) (takeBlocks n b c sh h l)
-  unfolding takeFair takeBlocks
+  pub take-row : takeRow (takeValid n b c sh) (takeBlocks n b c sh h l)
+  unfolding takeValid takeBlocks
   take-row =
       rw (le-not-lt (get b (arena frontier)) n)
       (before _ _ 13 (ltb n (get b (arena frontier))) _ _ _ refl (refl, refl)
@@ -189,7 +189,7 @@ release-table low many b c h ws =
     turn _ _ (wrongKind (sh .kind) ws) 9 _ _ _ refl refl λ e.
     out-turn _ _ (unmarked n b (low + c) sh ws) (repeats n b (low + c) sh ws) (every (outAt n b (low + c) sh) ws) _ (releasedNone b) _ (λ k. refl) (λ k. refl)
     (turn _ _ (otherPage b ws) 11 _ _ _ refl refl λ e.
-    turn _ _ (not (releaseFair n b (low + c) sh (length ws) q)) 13 _ _ _ refl refl λ e.
+    turn _ _ (not (releaseValid n b (low + c) sh (length ws) q)) 13 _ _ _ refl refl λ e.
     ends _ _ _ (last-code sh q (giveBackAt b (low + c) sh h q is) ∙ give-zero b (low + c) sh h q is)))
     n
     b)
@@ -210,7 +210,7 @@ chunks-table b c h ws gs fs =
     turn _ _ (wrongKind (sh .kind) ws || wrongKind chunkKind gs) 9 _ _ _ refl (refl, refl) λ e.
     out-turn _ _ (unmarked n b c sh ws) (repeats n b c sh ws) (every (outAt n b c sh) ws) _ (chunksNone b fs) _ (λ k. refl) (λ k. (refl, refl))
     (turn _ _ (chunksDiffer b ws gs) 11 _ _ _ refl (refl, refl) λ e.
-    turn _ _ (not (chunksFair n b c sh gs)) 13 _ _ _ refl (refl, refl) λ e.
+    turn _ _ (not (chunksValid n b c sh gs)) 13 _ _ _ refl (refl, refl) λ e.
     ends _ _ _ refl)))
     n
     b)

@@ -265,7 +265,7 @@ module _ (s : Start) (o : Starts s) where
   never : (xs : List Call) (x : Call) → marksFirst (bookAfter s xs) x ≡ false
   never xs x =
       by-cases (marksFirst (bookAfter s xs) x)
-      (λ e. absurd (next-agrees s o xs x .fair (ap (λ (r : Reply). r .code) (is-marked (bookAfter s xs) x e))))
+      (λ e. absurd (next-agrees s o xs x .valid (ap (λ (r : Reply). r .code) (is-marked (bookAfter s xs) x e))))
       (λ e. e)
 
   abbrev A2 : List ℕ → Call → Reply

@@ -38,10 +38,10 @@ use Rattle.model.proofs.Counts.{elem-count, every-count, filter-le, filter-pass
 use Rattle.model.proofs.Sites.{Once, GoodClass, SiteLaws, Tells, locate-law, locate-tells}
 use Rattle.model.proofs.Theorems.{outs}
 use Rattle.refinement.proofs.OutTests.{once-here}
-use Rattle.demands.specs.Run.{Opens, next, told}
+use Rattle.demands.specs.Run.{Opens, next, observed}
 use Rattle.demands.specs.Returns.{Twice, BlockOf, OneRun, ListOut}
 use Rattle.demands.proofs.Calls.{room}
-use Rattle.demands.proofs.Told.{told-out, out-told}
+use Rattle.demands.proofs.Observed.{observed-out, out-observed}
 use Rattle.demands.proofs.Codes.{next-host, next-answer, next-unrefused, next-zero}
 use Rattle.demands.proofs.Sizes.{one-first}
 use Rattle.demands.proofs.Places.{out-block, Lies, lies, lies-on, same-page, good-class, once-class, low-site}
@@ -192,27 +192,27 @@ module _ (n : ℕ) (rows b : List ℕ) (o : Opens n rows b) (xs : List Call) whe
   small = room n rows b o .few-pages
 
   -- number 10's test, by the history
-  pub out-here : (c w : ℕ) → OutIn (told n rows b xs) c w → outHere (shapeOf c) (heapAfter n (rulesOf rows) xs .classes c) w ≡ true
-  out-here c w p = outs n (rulesOf rows) xs .out c w .1 (told-out n rows b o xs c w p)
+  pub out-here : (c w : ℕ) → OutIn (observed n rows b xs) c w → outHere (shapeOf c) (heapAfter n (rulesOf rows) xs .classes c) w ≡ true
+  out-here c w p = outs n (rulesOf rows) xs .out c w .1 (observed-out n rows b o xs c w p)
 
-  pub all-out : (c : ℕ) (ws : List ℕ) → every (outHere (shapeOf c) (heapAfter n (rulesOf rows) xs .classes c)) ws ≡ true → distinct ws ≡ true → AllOut (told n rows b xs) c ws
+  pub all-out : (c : ℕ) (ws : List ℕ) → every (outHere (shapeOf c) (heapAfter n (rulesOf rows) xs .classes c)) ws ≡ true → distinct ws ≡ true → AllOut (observed n rows b xs) c ws
   all-out c ws e u = record {
-    out = λ w m. out-told n rows b o xs c w (outs n (rulesOf rows) xs .out c w .0 (every-count (outHere (shapeOf c) (heapAfter n (rulesOf rows) xs .classes c)) w ws e (elem-count w ws m)));
+    out = λ w m. out-observed n rows b o xs c w (outs n (rulesOf rows) xs .out c w .0 (every-count (outHere (shapeOf c) (heapAfter n (rulesOf rows) xs .classes c)) w ws e (elem-count w ws m)));
     once = u;
   }
 
-  pub out-all : (c : ℕ) (ws : List ℕ) → AllOut (told n rows b xs) c ws → every (outHere (shapeOf c) (heapAfter n (rulesOf rows) xs .classes c)) ws ≡ true
+  pub out-all : (c : ℕ) (ws : List ℕ) → AllOut (observed n rows b xs) c ws → every (outHere (shapeOf c) (heapAfter n (rulesOf rows) xs .classes c)) ws ≡ true
   out-all c ws p = every-elem (outHere (shapeOf c) (heapAfter n (rulesOf rows) xs .classes c)) ws (λ w m. out-here c w (p .out w m))
 
   -- number 15's test, by the history
-  pub twice-repeats : (c : ℕ) (ws : List ℕ) → Twice (told n rows b xs) c ws → repeats (shapeOf c) (heapAfter n (rulesOf rows) xs .classes c) ws ≡ true
+  pub twice-repeats : (c : ℕ) (ws : List ℕ) → Twice (observed n rows b xs) c ws → repeats (shapeOf c) (heapAfter n (rulesOf rows) xs .classes c) ws ≡ true
   unfolding repeats
   twice-repeats c ws p =
       let t = outHere (shapeOf c) (heapAfter n (rulesOf rows) xs .classes c) in
       let e = filter-keeps t (p .word) ws (out-here c (p .word) (p .out)) in
       by-cases (distinct (filter t ws)) (λ u. absurd (omega (arith, p .times, e, distinct-count (p .word) (filter t ws) u))) (λ u. rw u)
 
-  pub repeats-twice : (c : ℕ) (ws : List ℕ) → repeats (shapeOf c) (heapAfter n (rulesOf rows) xs .classes c) ws ≡ true → Twice (told n rows b xs) c ws
+  pub repeats-twice : (c : ℕ) (ws : List ℕ) → repeats (shapeOf c) (heapAfter n (rulesOf rows) xs .classes c) ws ≡ true → Twice (observed n rows b xs) c ws
   unfolding repeats
   repeats-twice c ws e =
       let t = outHere (shapeOf c) (heapAfter n (rulesOf rows) xs .classes c) in
@@ -220,16 +220,16 @@ module _ (n : ℕ) (rows b : List ℕ) (o : Opens n rows b) (xs : List Call) whe
       let w = r .0 in
       record {
         word = w;
-        out = out-told n rows b o xs c w (outs n (rulesOf rows) xs .out c w .0 (filter-passes t w ws (omega (arith, r .1))));
+        out = out-observed n rows b o xs c w (outs n (rulesOf rows) xs .out c w .0 (filter-passes t w ws (omega (arith, r .1))));
         times = omega (arith, r .1, filter-le t w ws);
       }
 
   -- a list that 15 does not refuse, and whose blocks are not all out
-  pub not-all : (c : ℕ) (ws : List ℕ) → repeats (shapeOf c) (heapAfter n (rulesOf rows) xs .classes c) ws ≡ false → (AllOut (told n rows b xs) c ws → ⊥) → every (outHere (shapeOf c) (heapAfter n (rulesOf rows) xs .classes c)) ws ≡ false
+  pub not-all : (c : ℕ) (ws : List ℕ) → repeats (shapeOf c) (heapAfter n (rulesOf rows) xs .classes c) ws ≡ false → (AllOut (observed n rows b xs) c ws → ⊥) → every (outHere (shapeOf c) (heapAfter n (rulesOf rows) xs .classes c)) ws ≡ false
   not-all c ws u r =
       by-cases (every (outHere (shapeOf c) (heapAfter n (rulesOf rows) xs .classes c)) ws) (λ t. absurd (r (all-out c ws t (once-here (shapeOf c) (heapAfter n (rulesOf rows) xs .classes c) ws u t)))) (λ t. t)
 
-  pub no-twice : (c : ℕ) (ws : List ℕ) → (Twice (told n rows b xs) c ws → ⊥) → repeats (shapeOf c) (heapAfter n (rulesOf rows) xs .classes c) ws ≡ false
+  pub no-twice : (c : ℕ) (ws : List ℕ) → (Twice (observed n rows b xs) c ws → ⊥) → repeats (shapeOf c) (heapAfter n (rulesOf rows) xs .classes c) ws ≡ false
   no-twice c ws r = by-cases (repeats (shapeOf c) (heapAfter n (rulesOf rows) xs .classes c) ws) (λ t. absurd (r (repeats-twice c ws t))) (λ t. t)
 
   module _ (c : ℕ) (x : Call) (h : ℕ) (ws : List ℕ) (d : names x ≡ some (record { class = c; request = Calls.giveBack h ws })) where
@@ -248,7 +248,7 @@ module _ (n : ℕ) (rows b : List ℕ) (o : Opens n rows b) (xs : List Call) whe
       unfolding classCall interact finish
       returned t = next-zero n rows b o xs x _ d host (tests-list (shapeOf c) (shape-sound c) (heapAfter n (rulesOf rows) xs .rules c) (heapAfter n (rulesOf rows) xs .classes c) (good-class n small (rulesOf rows) xs c) (once-class n small (rulesOf rows) xs c) (one-first c) h gives ws t)
 
-    pub list-returns : (next n rows b xs x .code ≡ 0) ↔ ListOut (told n rows b xs) c h ws
+    pub list-returns : (next n rows b xs x .code ≡ 0) ↔ ListOut (observed n rows b xs) c h ws
     list-returns = (
       λ z. let host = next-host n rows b o xs x _ d z in
           let t = passes host z in
@@ -261,27 +261,27 @@ module _ (n : ℕ) (rows b : List ℕ) (o : Opens n rows b) (xs : List Call) whe
     class-answer = next-answer n rows b o xs x _ d (le-ltb hostMax h low)
 
     module _ (listed : isNil ws ≡ false) (kinds : every (ofKind (shapeOf c .kind)) ws ≡ true) where
-      pub repeated : Twice (told n rows b xs) c ws → next n rows b xs x .answer ≡ Calls.refused 15
+      pub repeated : Twice (observed n rows b xs) c ws → next n rows b xs x .answer ≡ Calls.refused 15
       unfolding classCall interact finish
       repeated p =
           class-answer
           ∙ refused-fifteen (shapeOf c) (shape-sound c) (heapAfter n (rulesOf rows) xs .rules c) (heapAfter n (rulesOf rows) xs .classes c) (good-class n small (rulesOf rows) xs c) (once-class n small (rulesOf rows) xs c) (one-first c) h (gives c x h ws d) ws listed kinds (twice-repeats c ws p)
 
-      pub not-out : (Twice (told n rows b xs) c ws → ⊥) → (AllOut (told n rows b xs) c ws → ⊥) → next n rows b xs x .answer ≡ Calls.refused 10
+      pub not-out : (Twice (observed n rows b xs) c ws → ⊥) → (AllOut (observed n rows b xs) c ws → ⊥) → next n rows b xs x .answer ≡ Calls.refused 10
       unfolding classCall interact finish
       not-out p r =
           let u = no-twice c ws p in
           class-answer
           ∙ refused-ten (shapeOf c) (shape-sound c) (heapAfter n (rulesOf rows) xs .rules c) (heapAfter n (rulesOf rows) xs .classes c) (good-class n small (rulesOf rows) xs c) (once-class n small (rulesOf rows) xs c) (one-first c) h (gives c x h ws d) ws listed kinds u (not-all c ws u r)
 
-      pub not-together : AllOut (told n rows b xs) c ws → (OneRun (shapeOf c) ws → ⊥) → next n rows b xs x .answer ≡ Calls.refused 11
+      pub not-together : AllOut (observed n rows b xs) c ws → (OneRun (shapeOf c) ws → ⊥) → next n rows b xs x .answer ≡ Calls.refused 11
       unfolding classCall interact finish
       not-together p r =
           class-answer
           ∙ refused-eleven (shapeOf c) (shape-sound c) (heapAfter n (rulesOf rows) xs .rules c) (heapAfter n (rulesOf rows) xs .classes c) (good-class n small (rulesOf rows) xs c) (once-class n small (rulesOf rows) xs c) (one-first c) h (gives c x h ws d) ws listed kinds (out-all c ws p) (p .once) r
 
   -- a block alone
-  alone-out : (c w h : ℕ) → h ≤ hostMax → OutIn (told n rows b xs) c w → ListOut (told n rows b xs) c h (w ∷ [])
+  alone-out : (c w h : ℕ) → h ≤ hostMax → OutIn (observed n rows b xs) c w → ListOut (observed n rows b xs) c h (w ∷ [])
   alone-out c w h low p =
       let y = lies (shapeOf c) (shape-sound c) (heapAfter n (rulesOf rows) xs .classes c) (good-class n small (rulesOf rows) xs c) w (out-here c w p) in
       record {
@@ -293,7 +293,7 @@ module _ (n : ℕ) (rows b : List ℕ) (o : Opens n rows b) (xs : List Call) whe
       }
 
   pub word-returns : (c w : ℕ) (x : Call) (h : ℕ) → h ≤ hostMax → names x ≡ some (record { class = c; request = Calls.giveBack h (w ∷ []) })
-      → (next n rows b xs x .code ≡ 0) ↔ OutIn (told n rows b xs) c w
+      → (next n rows b xs x .code ≡ 0) ↔ OutIn (observed n rows b xs) c w
   word-returns c w x h low d = (
     λ z. list-returns c x h (w ∷ []) d .0 z .out .out w (elem-first w []),
     λ p. list-returns c x h (w ∷ []) d .1 (alone-out c w h low p),

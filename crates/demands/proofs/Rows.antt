@@ -13,23 +13,23 @@ use Rattle.classes.specs.declared.Shape.{Shape}
 use Rattle.classes.specs.Shape.{classCount}
 use Rattle.fields.specs.Field.{arena, class, page, size, frontier, holes, holePages, held, pages, partial, empty, emptyCount, cold, coldCount, free, carved, listed, get}
 use Rattle.rules.specs.declared.Limits.{Limits}
-use Rattle.model.specs.Spot.{spotOf, isEmpty, isCold, isArena}
+use Rattle.model.specs.Destination.{destinationOf, isEmpty, isCold, isArena}
 use Rattle.arena.specs.Load.{loadHoles, loadArena}
-use Rattle.arena.specs.Fair.{recordFair, holeEndsFair, holesEndFair, holeFair, holesFair, commitFair, giveFair, growGives, growFair, countsFair, allCountsFair, reportFair}
+use Rattle.arena.specs.Valid.{recordValid, holeEndsValid, holesEndValid, holeValid, holesValid, commitValid, giveValid, growGives, growValid, countsValid, allCountsValid, reportValid}
 use Rattle.pages.specs.Runs.{ofRun, whole}
-use Rattle.pages.specs.Stack.{tops, hasMore, indexOf}
+use Rattle.pages.specs.Stack.{topEntries, hasMore, indexOf}
 use Rattle.pages.specs.Links.{top, stored}
-use Rattle.pages.specs.Fair.{headerFair, limitsAt}
+use Rattle.pages.specs.Valid.{headerValid, limitsAt}
 use Rattle.pages.specs.declared.Park.{Park}
 use Rattle.pages.specs.declared.Park.the-variants.{Empty, Cold}
-use Rattle.calls.specs.Take.{pageReady, sound, walk, parkFair}
+use Rattle.calls.specs.Take.{pageReady, sound, walk, parkValid}
 use Rattle.calls.specs.Out.{startOf, outs}
-use Rattle.calls.specs.Release.{pageFair, rowFair, spotAt, spotFair, releaseFair}
-use Rattle.calls.specs.Chunks.{runsGiven, pagesGiven, chunksFair}
+use Rattle.calls.specs.Release.{pageValid, rowValid, destinationAt, destinationValid, releaseValid}
+use Rattle.calls.specs.Chunks.{runsGiven, pagesGiven, chunksValid}
 use Rattle.demands.specs.Ranges.{Link, partialOf, emptyOf, coldOf, nextOf, linkField, Use, emptyTaken, coldTaken, listedYes, listedNo, markClear, value, fits}
-use Rattle.demands.specs.Reads.{countReads, recordReads, holeReads, commitReads, giveReads, parkedReads, reportReads, runReads, entryReads, pageReads, supply, walkReads, parkReads, takeReads, markReads, backReads, rowReads, releaseReads, backsReads, chunksReads, besideReads, givenReads, growReads, stockReads, topReads}
-use Rattle.poolcalls.specs.Calls.{countFair, topFair}
-use Rattle.demands.specs.Number13.{takeFair, RowsDecide}
+use Rattle.demands.specs.Reads.{countReads, recordReads, holeReads, commitReads, giveReads, parkedReads, reportReads, runReads, entryReads, pageReads, supply, walkReads, parkReads, takeReads, markReads, backReads, rowReads, releaseReads, backsReads, chunksReads, neighboursReads, givenReads, growReads, stockReads, topReads}
+use Rattle.poolcalls.specs.Calls.{countValid, topValid}
+use Rattle.demands.specs.Number13.{takeValid, RowsDecide}
 use Rattle.demands.proofs.Ranges.{wanted, number-13}
 
 all-l : {A : Type 0} (P : A → Type 0) (s t : List A) → All P (s ++ t) → All P s
@@ -63,22 +63,22 @@ module _ (b b′ : List ℕ) where
 
   module _ (n : ℕ) where
     -- ---- the arena
-    record-same : Same recordReads → recordFair n b ≡ recordFair n b′
-    unfolding recordFair recordReads countReads
+    record-same : Same recordReads → recordValid n b ≡ recordValid n b′
+    unfolding recordValid recordReads countReads
     record-same h = rw (h .0, h .1 .0, h .1 .1 .0, h .1 .1 .1 .0, h .1 .1 .1 .1 .0)
 
-    parked-same : (cs : List ℕ) → Same (parkedReads cs) → every (countsFair b) cs ≡ every (countsFair b′) cs
+    parked-same : (cs : List ℕ) → Same (parkedReads cs) → every (countsValid b) cs ≡ every (countsValid b′) cs
     unfolding parkedReads
     parked-same [] h = refl
     parked-same (c ∷ cs) h = rw (h .0, h .1 .0, parked-same cs (h .1 .1))
 
-    report-same : Same reportReads → reportFair n b ≡ reportFair n b′
-    unfolding reportFair allCountsFair reportReads
+    report-same : Same reportReads → reportValid n b ≡ reportValid n b′
+    unfolding reportValid allCountsValid reportReads
     report-same h =
         let cs = parkedReads (below classCount) in
         rw (record-same (left recordReads cs h), parked-same (below classCount) (right recordReads cs h))
 
-    holes-same : (total f i k : ℕ) → Same (holeReads i k) → every (holeFair total f) (loadHoles b i k) ≡ every (holeFair total f) (loadHoles b′ i k)
+    holes-same : (total f i k : ℕ) → Same (holeReads i k) → every (holeValid total f) (loadHoles b i k) ≡ every (holeValid total f) (loadHoles b′ i k)
     unfolding loadHoles holeReads
     holes-same total f i zero h = refl
     holes-same total f i (suc k) h = rw (h .0, h .1 .0, holes-same total f (suc i) k (h .1 .1))
@@ -87,8 +87,8 @@ module _ (b b′ : List ℕ) where
     unfolding recordReads
     holes-words h = (h .1 .1 .0, h .1 .1 .1 .0, h .1 .0)
 
-    commit-same : Same (commitReads b) → commitFair n b ≡ commitFair n b′
-    unfolding commitFair commitReads holesFair
+    commit-same : Same (commitReads b) → commitValid n b ≡ commitValid n b′
+    unfolding commitValid commitReads holesValid
     commit-same h =
         let hs = holeReads 0 (get b (arena holes)) in
         let r = left recordReads hs h in
@@ -96,23 +96,23 @@ module _ (b b′ : List ℕ) where
         rw (record-same r, holes-same (get b (arena holePages)) (get b (arena frontier)) 0 (get b (arena holes)) (right recordReads hs h), w .0, w .1, w .2)
 
     -- the holes where a give reads them
-    beside-same : (f i k : ℕ) → Same (besideReads i k) → every (holeEndsFair f) (loadHoles b i k) ≡ every (holeEndsFair f) (loadHoles b′ i k)
-    unfolding loadHoles besideReads
-    beside-same f i zero h = refl
-    beside-same f i (suc k) h = rw (h .0, h .1 .0, beside-same f (suc i) k (h .1 .1))
+    neighbours-same : (f i k : ℕ) → Same (neighboursReads i k) → every (holeEndsValid f) (loadHoles b i k) ≡ every (holeEndsValid f) (loadHoles b′ i k)
+    unfolding loadHoles neighboursReads
+    neighbours-same f i zero h = refl
+    neighbours-same f i (suc k) h = rw (h .0, h .1 .0, neighbours-same f (suc i) k (h .1 .1))
 
-    ends-same : get b (arena holes) ≡ get b′ (arena holes) → get b (arena frontier) ≡ get b′ (arena frontier) → Same (besideReads 0 (get b (arena holes))) → holesEndFair b ≡ holesEndFair b′
-    unfolding holesEndFair
-    ends-same e d h = rw (beside-same (get b (arena frontier)) 0 (get b (arena holes)) h, e, d)
+    ends-same : get b (arena holes) ≡ get b′ (arena holes) → get b (arena frontier) ≡ get b′ (arena frontier) → Same (neighboursReads 0 (get b (arena holes))) → holesEndValid b ≡ holesEndValid b′
+    unfolding holesEndValid
+    ends-same e d h = rw (neighbours-same (get b (arena frontier)) 0 (get b (arena holes)) h, e, d)
 
-    given-record : (m : ℕ) → Same (givenReads m) → (recordFair n b ≡ recordFair n b′) × (get b (arena held) ≡ get b′ (arena held)) × (get b (arena holes) ≡ get b′ (arena holes)) × (get b (arena frontier) ≡ get b′ (arena frontier))
-    unfolding recordFair givenReads countReads
+    given-record : (m : ℕ) → Same (givenReads m) → (recordValid n b ≡ recordValid n b′) × (get b (arena held) ≡ get b′ (arena held)) × (get b (arena holes) ≡ get b′ (arena holes)) × (get b (arena frontier) ≡ get b′ (arena frontier))
+    unfolding recordValid givenReads countReads
     given-record m h = (rw (h .0, h .1 .0, h .1 .1 .0, h .1 .1 .1 .0, h .1 .1 .1 .1 .0), h .1 .1 .1 .1 .0, h .1 .1 .0, h .1 .0)
 
-    give-same : (m : ℕ) → Same (giveReads b m) → giveFair n b m ≡ giveFair n b′ m
-    unfolding giveFair giveReads
+    give-same : (m : ℕ) → Same (giveReads b m) → giveValid n b m ≡ giveValid n b′ m
+    unfolding giveValid giveReads
     give-same m h =
-        let hs = besideReads 0 (get b (arena holes)) in
+        let hs = neighboursReads 0 (get b (arena holes)) in
         let w = given-record m (left (givenReads m) hs h) in
         rw (w .0, w .1, ends-same (w .2) (w .3) (right (givenReads m) hs h))
 
@@ -120,17 +120,17 @@ module _ (b b′ : List ℕ) where
     unfolding growGives loadArena
     grow-gives h e m d = rw d
 
-    grow-same : get b (arena size) ≡ n → (h e m : ℕ) → Same (growReads b h e m) → growFair n b h e m ≡ growFair n b′ h e m
-    unfolding growFair growReads
+    grow-same : get b (arena size) ≡ n → (h e m : ℕ) → Same (growReads b h e m) → growValid n b h e m ≡ growValid n b′ h e m
+    unfolding growValid growReads
     grow-same z h e m k =
-        let hs = besideReads 0 (get b (arena holes)) in
+        let hs = neighboursReads 0 (get b (arena holes)) in
         let t = growGives (get b (arena size)) b h e m in
         let r = left recordReads (cond t hs []) k in
         let w = holes-words r in
-        rw (record-same r, ← (grow-gives h e m (w .2))) (ap (λ (x : Bool). recordFair n b′ && x) (if-ends (growGives n b h e m) (w .0) (w .2) (subst (λ (y : ℕ). Same (cond (growGives y b h e m) hs [])) z (right recordReads (cond t hs []) k))))
+        rw (record-same r, ← (grow-gives h e m (w .2))) (ap (λ (x : Bool). recordValid n b′ && x) (if-ends (growGives n b h e m) (w .0) (w .2) (subst (λ (y : ℕ). Same (cond (growGives y b h e m) hs [])) z (right recordReads (cond t hs []) k))))
       where
-        if-ends : (t : Bool) → get b (arena holes) ≡ get b′ (arena holes) → get b (arena frontier) ≡ get b′ (arena frontier) → Same (cond t (besideReads 0 (get b (arena holes))) [])
-            → cond t (holesEndFair b) true ≡ cond t (holesEndFair b′) true
+        if-ends : (t : Bool) → get b (arena holes) ≡ get b′ (arena holes) → get b (arena frontier) ≡ get b′ (arena frontier) → Same (cond t (neighboursReads 0 (get b (arena holes))) [])
+            → cond t (holesEndValid b) true ≡ cond t (holesEndValid b′) true
         if-ends true e d s = ends-same e d s
         if-ends false e d s = refl
 
@@ -140,7 +140,7 @@ module _ (b b′ : List ℕ) where
     run-same c q [] h = refl
     run-same c q (k ∷ ks) h = rw (h .0, h .1 .0, run-same c q ks (h .1 .1))
 
-    entry-same : (q m t : ℕ) → Same (entryReads q m t) → tops b q m t ≡ tops b′ q m t
+    entry-same : (q m t : ℕ) → Same (entryReads q m t) → topEntries b q m t ≡ topEntries b′ q m t
     unfolding entryReads
     entry-same q zero t h = refl
     entry-same q (suc m) zero h = refl
@@ -151,7 +151,7 @@ module _ (b b′ : List ℕ) where
           → ((d : List ℕ) → value d on ≡ get d (page listed (get b (linkField f) - 1)))
           → Same (pageReads b c sh f on m)
           → sound n b c sh l m (get b (linkField f) - 1) ≡ sound n b′ c sh l m (get b (linkField f) - 1)
-      unfolding sound pageReady headerFair whole hasMore pageReads
+      unfolding sound pageReady headerValid whole hasMore pageReads
       page-same f l on m e h =
           let q = get b (linkField f) - 1 in
           let rs = runReads c q (below (sh .pages)) in
@@ -192,8 +192,8 @@ module _ (b b′ : List ℕ) where
           → linkField f ≡ class (top p) c
           → ((d : List ℕ) → value d count ≡ get d (class (stored p) c))
           → Same (parkReads b c sh f count)
-          → parkFair n b c sh p ≡ parkFair n b′ c sh p
-      unfolding parkFair parkReads
+          → parkValid n b c sh p ≡ parkValid n b′ c sh p
+      unfolding parkValid parkReads
       park-same p f count e i h =
           let q = get b (linkField f) - 1 in
           let k : get b (class (stored p) c) ≡ get b′ (class (stored p) c) = sym (i b) ∙ h .1 .0 ∙ i b′ in
@@ -201,8 +201,8 @@ module _ (b b′ : List ℕ) where
           rw (← e, s, h .1 .1 .0, low, h .0, k)
 
       -- ---- a take: its source
-      take-same : Same (takeReads b c sh) → takeFair n b c sh ≡ takeFair n b′ c sh
-      unfolding takeFair takeReads
+      take-same : Same (takeReads b c sh) → takeValid n b c sh ≡ takeValid n b′ c sh
+      unfolding takeValid takeReads
       take-same h =
           by-cases (not (eqb (get b (class partial c)) 0))
           (λ e.
@@ -234,8 +234,8 @@ module _ (b b′ : List ℕ) where
           rw (e, e′, commit-same (h .1), low))))))
 
       -- ---- releases
-      back-same : (m q : ℕ) → Same (backReads b sh m q) → pageFair b sh m q ≡ pageFair b′ sh m q
-      unfolding pageFair headerFair backReads
+      back-same : (m q : ℕ) → Same (backReads b sh m q) → pageValid b sh m q ≡ pageValid b′ sh m q
+      unfolding pageValid headerValid backReads
       back-same m q h =
           by-cases (eqb (get b (page listed q)) 1)
           (λ e.
@@ -250,23 +250,23 @@ module _ (b b′ : List ℕ) where
       unfolding backReads
       back-words m q h = (h .0, h .1 .0)
 
-      row-same : Same (rowReads c) → rowFair b c ≡ rowFair b′ c
-      unfolding rowFair rowReads
+      row-same : Same (rowReads c) → rowValid b c ≡ rowValid b′ c
+      unfolding rowValid rowReads
       row-same h = rw (h .0, h .1 .0, h .1 .1 .0, h .1 .1 .1 .0, h .1 .1 .1 .1 .0, h .1 .1 .1 .1 .1 .0, h .1 .1 .1 .1 .1 .1 .0, low)
 
       row-words : Same (rowReads c) → (get b (class emptyCount c) ≡ get b′ (class emptyCount c)) × (get b (class coldCount c) ≡ get b′ (class coldCount c)) × (limitsAt b c ≡ limitsAt b′ c)
       unfolding rowReads
       row-words h = (h .1 .1 .0, h .1 .1 .1 .1 .0, rw (h .1 .1 .1 .1 .1 .0, h .1 .1 .1 .1 .1 .1 .0))
 
-      given-same : (t : Bool) (m : ℕ) → Same (cond t (giveReads b m) []) → cond t (giveFair n b m) true ≡ cond t (giveFair n b′ m) true
+      given-same : (t : Bool) (m : ℕ) → Same (cond t (giveReads b m) []) → cond t (giveValid n b m) true ≡ cond t (giveValid n b′ m) true
       given-same true m h = give-same m h
       given-same false m h = refl
 
-      release-same : (m q : ℕ) → Same (releaseReads b c sh m q) → releaseFair n b c sh m q ≡ releaseFair n b′ c sh m q
-      unfolding releaseFair spotFair releaseReads
+      release-same : (m q : ℕ) → Same (releaseReads b c sh m q) → releaseValid n b c sh m q ≡ releaseValid n b′ c sh m q
+      unfolding releaseValid destinationValid releaseReads
       release-same m q h =
           let ps = backReads b sh m q in
-          let t = eqb (get b (page free q) + m) (get b (page carved q)) && isArena (spotAt b c sh) in
+          let t = eqb (get b (page free q) + m) (get b (page carved q)) && isArena (destinationAt b c sh) in
           let gs = cond t (giveReads b (sh .pages)) [] in
           let p = left ps (rowReads c ++ gs) (h .1) in
           let r = right ps (rowReads c ++ gs) (h .1) in
@@ -277,7 +277,7 @@ module _ (b b′ : List ℕ) where
       -- ---- releases of chunks
       backs-same : (gs : List ℕ)
           → Same (backsReads b sh gs)
-          → every (λ g. pageFair b sh (countOf g) (pageOf g)) gs ≡ every (λ g. pageFair b′ sh (countOf g) (pageOf g)) gs
+          → every (λ g. pageValid b sh (countOf g) (pageOf g)) gs ≡ every (λ g. pageValid b′ sh (countOf g) (pageOf g)) gs
       unfolding backsReads
       backs-same [] h = refl
       backs-same (g ∷ gs) h =
@@ -291,15 +291,15 @@ module _ (b b′ : List ℕ) where
           let ps = backReads b sh (countOf g) (pageOf g) in
           let w = back-words (countOf g) (pageOf g) (left ps (backsReads b sh gs) h) in
           let r = right ps (backsReads b sh gs) h in
-          let s = spotOf sh lim e k in
+          let s = destinationOf sh lim e k in
           rw (w .0, w .1, runs-same lim gs (e + digit (isEmpty s)) (k + digit (isCold s)) r, runs-same lim gs e k r)
 
-      none-same : (t : Bool) (m : ℕ) → Same (cond t [] (giveReads b m)) → cond t true (giveFair n b m) ≡ cond t true (giveFair n b′ m)
+      none-same : (t : Bool) (m : ℕ) → Same (cond t [] (giveReads b m)) → cond t true (giveValid n b m) ≡ cond t true (giveValid n b′ m)
       none-same true m h = refl
       none-same false m h = give-same m h
 
-      chunks-same : (gs : List ℕ) → Same (chunksReads b c sh gs) → chunksFair n b c sh gs ≡ chunksFair n b′ c sh gs
-      unfolding chunksFair chunksReads
+      chunks-same : (gs : List ℕ) → Same (chunksReads b c sh gs) → chunksValid n b c sh gs ≡ chunksValid n b′ c sh gs
+      unfolding chunksValid chunksReads
       chunks-same gs h =
           let ps = backsReads b sh gs in
           let m = pagesGiven b c sh gs in
@@ -332,12 +332,12 @@ module _ (b b′ : List ℕ) where
   unfolding chunksReads
   chunks-low c sh gs h = h .0
 
-  stock-same : (c : ℕ) → Same b b′ (stockReads c) → countFair b c ≡ countFair b′ c
-  unfolding stockReads countFair
+  stock-same : (c : ℕ) → Same b b′ (stockReads c) → countValid b c ≡ countValid b′ c
+  unfolding stockReads countValid
   stock-same c h = rw (h .0)
 
-  top-same : (c : ℕ) → get b (arena size) ≡ get b′ (arena size) → Same b b′ (topReads b c) → topFair (get b (arena size)) b c ≡ topFair (get b′ (arena size)) b′ c
-  unfolding topReads topFair countFair
+  top-same : (c : ℕ) → get b (arena size) ≡ get b′ (arena size) → Same b b′ (topReads b c) → topValid (get b (arena size)) b c ≡ topValid (get b′ (arena size)) b′ c
+  unfolding topReads topValid countValid
   top-same c e h = let r = h .1 in rw (r .0, h .0, e)
 
   pub rows-decide : RowsDecide b b′

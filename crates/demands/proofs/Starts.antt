@@ -1,8 +1,8 @@
 -- Histories from a trace are histories from an opening with its takes and releases in front.
---     begins        what a caller sees of a start makes it one, with the book that it left
---     as-opening    the book and the replies are those
---     told-is       so is what is told of them
---     represents    so the book stands for the model's heap; `next-is` and `next-agrees` are of one more call
+--     begins         what a caller sees of a start makes it one, with the book that it left
+--     as-opening     the book and the replies are those
+--     observed-is    so is what is told of them
+--     represents     so the book stands for the model's heap; `next-is` and `next-agrees` are of one more call
 use Prim.Native.Nat.{ℕ}
 use mathlib.Core.List.{List, [], _∷_, _++_}
 use mathlib.Core.Path.{_≡_, refl, sym, ap, subst}
@@ -16,7 +16,7 @@ use Rattle.refinement.proofs.Whole.{call-whole}
 use Rattle.demands.specs.Call.{call}
 use Rattle.demands.specs.Run as Opening
 use Rattle.demands.specs.Run.{answered}
-use Rattle.demands.specs.Start.{Start, opening, trace, Begins, opens, traces, pages, ruleRows, rules, lent, begun, did, Starts, calls, bookAfter, next, told, AsOpening}
+use Rattle.demands.specs.Start.{Start, opening, trace, Begins, opens, traces, pages, ruleRows, rules, lent, begun, did, Starts, calls, bookAfter, next, observed, AsOpening}
 use Rattle.demands.proofs.Calls.{room, call-is}
 use Rattle.demands.proofs.Histories.{book-split, run-represents}
 use Rattle.demands.proofs.Trace as Trace
@@ -40,8 +40,8 @@ as-opening s o xs = record {
   answers = rw (begun-is s o) (sym (replies-append _ (did s) xs));
 }
 
-pub told-is : (s : Start) → Starts s → (xs : List Call) → told s xs ≡ Opening.told (pages s) (ruleRows s) (lent s) (calls s xs)
-told-is s o xs = ap (answered (calls s xs)) (as-opening s o xs .answers)
+pub observed-is : (s : Start) → Starts s → (xs : List Call) → observed s xs ≡ Opening.observed (pages s) (ruleRows s) (lent s) (calls s xs)
+observed-is s o xs = ap (answered (calls s xs)) (as-opening s o xs .answers)
 
 module _ (s : Start) (o : Starts s) (xs : List Call) where
   pub represents : Represents (pages s) (bookAfter s xs) (heapAfter (pages s) (rules s) (calls s xs))

@@ -20,14 +20,14 @@ use Rattle.refinement.specs.way.Represents.{Represents}
 use Rattle.refinement.specs.Direct.{Reply}
 use Rattle.refinement.specs.Run.{callReply, repliesFrom, answersIn}
 use Rattle.demands.specs.Call.{call}
-use Rattle.demands.specs.Run.{Opens, Room, run, bookAfter, next, told}
-use Rattle.demands.specs.Contracts.{Shows, InTurn}
+use Rattle.demands.specs.Run.{Opens, Room, run, bookAfter, next, observed}
+use Rattle.demands.specs.Contracts.{Observes, InTurn}
 use Rattle.demands.specs.Start.{Start, pages, ruleRows, rules, lent, Starts, calls, since, replies, Begins}
 use Rattle.demands.specs.Demands.{Demand2At, Demand2, Demand3, TableBytes}
 use Rattle.demands.proofs.Calls as Calls
 use Rattle.demands.proofs.Contracts as Contracts
 use Rattle.demands.proofs.Histories as Histories
-use Rattle.demands.proofs.Told.{told-answers, told-disjoint, told-iso}
+use Rattle.demands.proofs.Observed.{observed-answers, observed-disjoint, observed-iso}
 use Rattle.demands.proofs.Sizes as Sizes
 use Rattle.demands.proofs.Fits.{commit-fits, run-fits, holes-counted, take-yields, take-fewer, take-most, take-turns, take-virgin}
 use Rattle.demands.proofs.Returns.{word-returns, list-returns, repeated, not-out, not-together}
@@ -35,11 +35,11 @@ use Rattle.demands.proofs.ChunkReturns.{chunks-return, chunks-repeated,
 use Rattle.demands.proofs.Held.{held-releases, unheld-refused, held-grows, unheld-stays, growth-fits}
 use Rattle.demands.proofs.Gives.{none-touch, run-given, commit-given, growth-given, class-given}
 use Rattle.demands.proofs.Unused.{commit-unused, growth-unused, class-unused}
-use Rattle.demands.proofs.Starts.{begins, as-opening, told-is}
+use Rattle.demands.proofs.Starts.{begins, as-opening, observed-is}
 
 -- what a caller sees of an exported function, by its contract, is the reply of `call`; of calls in turn from an opening or a trace, that of `since`
-pub shows-call : {b : List ℕ} {x : Call} {w : Reply} → Shows b x w → w ≡ call b x
-shows-call = Contracts.shows-call
+pub observes-call : {b : List ℕ} {x : Call} {w : Reply} → Observes b x w → w ≡ call b x
+observes-call = Contracts.observes-call
 
 pub in-turn-run : (s : Start) (b′ : List ℕ) (xs : List Call) (ws : List Reply) → Begins s b′ → InTurn b′ xs ws → Starts s × (ws ≡ since s xs)
 in-turn-run s b′ xs ws d t = let g = begins d in (g .0, Contracts.in-turn-replies t ∙ ap (λ (m : List ℕ). repliesFrom call m xs) (g .1))
@@ -65,8 +65,8 @@ call-is = Calls.call-is
 pub run-answers : (n : ℕ) (rows b : List ℕ) → Opens n rows b → (xs : List Call) → answersIn (run n rows b xs) ≡ answers n (rulesOf rows) xs
 run-answers = Histories.run-answers
 
-pub run-fair : (s : Start) → Starts s → (xs : List Call) → All (λ (r : Reply). r .code ≡ 13 → ⊥) (replies s xs)
-run-fair s o xs = rw (as-opening s o xs .answers) (Histories.run-fair (pages s) (ruleRows s) (lent s) o (calls s xs))
+pub run-valid : (s : Start) → Starts s → (xs : List Call) → All (λ (r : Reply). r .code ≡ 13 → ⊥) (replies s xs)
+run-valid s o xs = rw (as-opening s o xs .answers) (Histories.run-valid (pages s) (ruleRows s) (lent s) o (calls s xs))
 
 pub run-represents : (n : ℕ) (rows b : List ℕ) → Opens n rows b → (xs : List Call) → Represents n (bookAfter n rows b xs) (heapAfter n (rulesOf rows) xs)
 run-represents = Histories.run-represents
@@ -113,7 +113,7 @@ at-opening n rows b o xs = record {
   newRuns = commit-unused n rows b o xs;
   newPages = growth-unused n rows b o xs;
   newOfClass = class-unused n rows b o xs;
-  apart = told-iso n rows b o xs (Model.iso-disjoint n (Calls.room n rows b o .few-pages) (rulesOf rows) xs);
+  apart = observed-iso n rows b o xs (Model.iso-disjoint n (Calls.room n rows b o .few-pages) (rulesOf rows) xs);
 }
 
 -- after a trace it is the same, with what the trace did in front
@@ -131,19 +131,19 @@ block-bytes = Sizes.block-bytes
 -- a class's answers are the model's
 both : (n₁ n₂ : ℕ) (r₁ r₂ b₁ b₂ : List ℕ) → Opens n₁ r₁ b₁ → Opens n₂ r₂ b₂ → (c : ℕ) (xs ys : List Call)
     → (answersOf c (events n₁ (rulesOf r₁) xs) ≡ answersOf c (events n₂ (rulesOf r₂) ys)) ↔ (runsOf c (events n₁ (rulesOf r₁) xs) ≡ runsOf c (events n₂ (rulesOf r₂) ys))
-    → (answersOf c (told n₁ r₁ b₁ xs) ≡ answersOf c (told n₂ r₂ b₂ ys)) ↔ (runsOf c (events n₁ (rulesOf r₁) xs) ≡ runsOf c (events n₂ (rulesOf r₂) ys))
-both n₁ n₂ r₁ r₂ b₁ b₂ o₁ o₂ c xs ys f = rw (told-answers n₁ r₁ b₁ o₁ c xs, told-answers n₂ r₂ b₂ o₂ c ys) f
+    → (answersOf c (observed n₁ r₁ b₁ xs) ≡ answersOf c (observed n₂ r₂ b₂ ys)) ↔ (runsOf c (events n₁ (rulesOf r₁) xs) ≡ runsOf c (events n₂ (rulesOf r₂) ys))
+both n₁ n₂ r₁ r₂ b₁ b₂ o₁ o₂ c xs ys f = rw (observed-answers n₁ r₁ b₁ o₁ c xs, observed-answers n₂ r₂ b₂ o₂ c ys) f
 
 -- after an opening
 alone-at : (n₁ n₂ : ℕ) (r₁ r₂ b₁ b₂ : List ℕ) → Opens n₁ r₁ b₁ → Opens n₂ r₂ b₂ → (c : ℕ) (xs ys : List Call) → rulesOf r₁ c ≡ rulesOf r₂ c → callsOf c xs ≡ callsOf c ys
-    → (answersOf c (told n₁ r₁ b₁ xs) ≡ answersOf c (told n₂ r₂ b₂ ys)) ↔ (runsOf c (events n₁ (rulesOf r₁) xs) ≡ runsOf c (events n₂ (rulesOf r₂) ys))
+    → (answersOf c (observed n₁ r₁ b₁ xs) ≡ answersOf c (observed n₂ r₂ b₂ ys)) ↔ (runsOf c (events n₁ (rulesOf r₁) xs) ≡ runsOf c (events n₂ (rulesOf r₂) ys))
 alone-at n₁ n₂ r₁ r₂ b₁ b₂ o₁ o₂ c xs ys lim e = both n₁ n₂ r₁ r₂ b₁ b₂ o₁ o₂ c xs ys (Alone.alone n₁ n₂ (rulesOf r₁) (rulesOf r₂) c xs ys lim e)
 
 pub demand-3 : Demand3
 demand-3 = record {
   alone = λ s₁ s₂ o₁ o₂ c lim xs ys e.
-      rw (told-is s₁ o₁ xs, told-is s₂ o₂ ys) (alone-at (pages s₁) (pages s₂) (ruleRows s₁) (ruleRows s₂) (lent s₁) (lent s₂) o₁ o₂ c (calls s₁ xs) (calls s₂ ys) lim e);
+      rw (observed-is s₁ o₁ xs, observed-is s₂ o₂ ys) (alone-at (pages s₁) (pages s₂) (ruleRows s₁) (ruleRows s₂) (lent s₁) (lent s₂) o₁ o₂ c (calls s₁ xs) (calls s₂ ys) lim e);
   disjoint = λ s o xs.
       let n = pages s in
-      rw (told-is s o xs) (told-disjoint n (ruleRows s) (lent s) o (calls s xs) (Model.demand-3 n (Calls.room n (ruleRows s) (lent s) o .few-pages) .disjoint (rules s) (calls s xs)));
+      rw (observed-is s o xs) (observed-disjoint n (ruleRows s) (lent s) o (calls s xs) (Model.demand-3 n (Calls.room n (ruleRows s) (lent s) o .few-pages) .disjoint (rules s) (calls s xs)));
 }

@@ -22,12 +22,12 @@ use Rattle.trace.specs.Words.{Going, Traced, begins, roomOf, ending, traceOn}
 use Rattle.demands.specs.Run.{Opens, run}
 use Rattle.demands.specs.Trace.{reached, didCalls, handedBy, TraceOpens, TraceFigures, TraceStops, TraceOut, Trace}
 use Rattle.demands.proofs.Calls.{room, room-plain, opens, fits-length, opened-by}
-use Rattle.demands.proofs.TraceMarks.{markOf, wordOf, straight-marks}
+use Rattle.demands.proofs.TraceListed.{listedWord, wordOf, restored-listed}
 use Rattle.demands.proofs.TraceWords.{standing, Whole, whole, good-start, good-bytes}
 use Rattle.demands.proofs.TraceReasons.{reason-stops, stops-reason, highest-is}
 
-length-marks : (hs : List Handed) → length (map markOf hs) ≡ length hs
-length-marks hs = length-map hs markOf
+length-listed : (hs : List Handed) → length (map listedWord hs) ≡ length hs
+length-listed hs = length-map hs listedWord
 
 -- ---- when it stops
 module _ (n : ℕ) (m : Room) where
@@ -65,8 +65,8 @@ module _ (n : ℕ) (b : List ℕ) (o : Opens n [] b) (ws bl fl dn : List ℕ) wh
   pub trace-opens : TraceOpens n b ws bl fl (traceOn b n ws bl fl dn .book) (traceOn b n ws bl fl dn .blocks)
   trace-opens =
       let hs = reached n ws bl fl .handed in
-      let w = straight-marks hs (all .good .kinds) ∙ all .good .words in
-      let l : length (map markOf hs) ≡ length (handedBy (run n [] b (didCalls n ws bl fl))) = length-marks hs ∙ sym (length-map hs wordOf) ∙ ap length (all .good .words) in
+      let w = restored-listed hs (all .good .kinds) ∙ all .good .words in
+      let l : length (map listedWord hs) ≡ length (handedBy (run n [] b (didCalls n ws bl fl))) = length-listed hs ∙ sym (length-map hs wordOf) ∙ ap length (all .good .words) in
       record {
         book = ap (λ (t : Traced). t .book) trace-is;
         blocks = ap (λ (t : Traced). t .blocks) trace-is ∙ (rw (w, l));
@@ -76,7 +76,7 @@ module _ (n : ℕ) (b : List ℕ) (o : Opens n [] b) (ws bl fl dn : List ℕ) wh
   trace-figures : TraceFigures n ws bl fl (traceOn b n ws bl fl dn .figures) (traceOn b n ws bl fl dn .done)
   trace-figures = record {
     figures = ap (λ (t : Traced). t .figures) trace-is;
-    done = ap (λ (t : Traced). t .done) trace-is ∙ (rw (length-marks (reached n ws bl fl .handed)));
+    done = ap (λ (t : Traced). t .done) trace-is ∙ (rw (length-listed (reached n ws bl fl .handed)));
     highest = λ i. highest-is n (ListN.take i ws);
     within = good-bytes n b o (reached n ws bl fl) (all .good);
   }

@@ -36,10 +36,10 @@ use Rattle.model.proofs.Fold.{in-live}
 use Rattle.arena.specs.Owners.{ownerCode}
 use Rattle.arena.specs.Calls as Arena
 use Rattle.arena.specs.Calls.{reportCode}
-use Rattle.arena.specs.Fair.{reportFair}
+use Rattle.arena.specs.Valid.{reportValid}
 use Rattle.pages.specs.Stack.{pageAt}
 use Rattle.direct.specs.declared.Report.{Report}
-use Rattle.direct.specs.declared.Report.the-variants.{Refused, Told}
+use Rattle.direct.specs.declared.Report.the-variants.{Refused, Reported}
 use Rattle.direct.specs.Answer.{reportOf}
 use Rattle.calls.specs.Take.{Took}
 use Rattle.calls.specs.Release.{Released, releaseBlocks}
@@ -56,7 +56,7 @@ use Rattle.vigbuso.specs.Direct.{openOn}
 use Rattle.demands.specs.Run.{Opens, bookAfter, next}
 use Rattle.demands.proofs.Calls.{room}
 use Rattle.demands.proofs.Histories.{next-is, next-agrees, run-represents, book-split}
-use Rattle.demands.proofs.Told.{out-told}
+use Rattle.demands.proofs.Observed.{out-observed}
 use Rattle.demands.proofs.Codes.{next-class, next-zero}
 use Rattle.demands.proofs.Places.{byte-held}
 use Rattle.demands.proofs.Returns.{list-returns, word-returns}
@@ -127,9 +127,9 @@ back-now n b c w h e =
     rw (e, k, d)
 
 -- ---- a report, t being its test of number 13
-told-by : (t : Bool) (f g : Figures) → cond (eqb (cond t 0 13) 0) (reported f) (refused (cond t 0 13)) ≡ reported g → cond t (Told f) (Report.Refused 13) ≡ Told g
-told-by true f g e = let z : f ≡ g = cc in ap Told z
-told-by false f g e = cc
+observed-by : (t : Bool) (f g : Figures) → cond (eqb (cond t 0 13) 0) (reported f) (refused (cond t 0 13)) ≡ reported g → cond t (Reported f) (Report.Refused 13) ≡ Reported g
+observed-by true f g e = let z : f ≡ g = cc in ap Reported z
+observed-by false f g e = cc
 
 -- ---- after a history
 module _ (n : ℕ) (b : List ℕ) (o : Opens n [] b) (xs : List Call) where
@@ -198,7 +198,7 @@ module _ (n : ℕ) (b : List ℕ) (o : Opens n [] b) (xs : List Call) where
       let d = names-back e h in
       let r = releaseBlocks n book c (shapeOf c) hostMax (w ∷ []) in
       let l = in-live e (events n (rulesOf []) xs) m in
-      let out = out-told n [] b o xs c w (record { entry = e; live = l; class = refl; word = refl }) in
+      let out = out-observed n [] b o xs c w (record { entry = e; live = l; class = refl; word = refl }) in
       let f : next n [] b xs (backOf e) .code ≡ 0 = word-returns n [] b o xs c w (backOf e) hostMax (omega arith) d .1 out in
       let i : next n [] b xs (backOf e) ≡ listReply r = next-class n [] b o xs (backOf e) (giving e) d refl in
       let z : r .code ≡ 0 = ap (λ (x : Reply). x .code) (sym i) ∙ f in
@@ -218,6 +218,6 @@ module _ (n : ℕ) (b : List ℕ) (o : Opens n [] b) (xs : List Call) where
       }
 
   -- a report
-  pub report-is : reportOf n book ≡ Told (figures n heap)
+  pub report-is : reportOf n book ≡ Reported (figures n heap)
   unfolding reportOf reportCode callReply wayOf directReply step directCall
-  report-is = told-by (reportFair n book) (Arena.figures n book) (figures n heap) (ap (λ (r : Reply). r .answer) (sym (next-is n [] b o xs Calls.report)) ∙ next-agrees n [] b o xs Calls.report .answer)
+  report-is = observed-by (reportValid n book) (Arena.figures n book) (figures n heap) (ap (λ (r : Reply). r .answer) (sym (next-is n [] b o xs Calls.report)) ∙ next-agrees n [] b o xs Calls.report .answer)

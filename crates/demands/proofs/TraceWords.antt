@@ -39,7 +39,7 @@ use Rattle.demands.proofs.Calls.{room}
 use Rattle.demands.proofs.Histories.{run-calls}
 use Rattle.demands.proofs.TraceLive.{live, live-next, none-released, still-append, still-back, live-single, live-bytes, at-still, keeps, Single}
 use Rattle.demands.proofs.TraceSteps.{names-take, names-back, take-step, back-step, report-is}
-use Rattle.demands.proofs.TraceMarks.{markOf, wordOf, Block, marks-more, words-more, out-more, bytes-more, entries-length, all-more, all-behind, all-then, all-back, more-class, bytes-still, out-mark, back-mark, back-words, entry, all-at, placed}
+use Rattle.demands.proofs.TraceListed.{listedWord, wordOf, Block, listed-more, words-more, out-more, bytes-more, entries-length, all-more, all-behind, all-then, all-back, more-class, bytes-still, out-mark, back-mark, back-words, entry, all-at, placed}
 
 -- ---- what a word says names a class of ours
 abbrev Fine : Say → Type 0
@@ -95,7 +95,7 @@ module _ (n : ℕ) (b : List ℕ) (o : Opens n [] b) where
   abbrev pub standing : Reach → Going
   standing r = record {
     book = bookAfter n [] b (r .calls);
-    marks = map markOf (r .handed);
+    listed = map listedWord (r .handed);
     figures = r .figures;
     out = total isOut (r .handed);
     bytes = total bytesOf (r .handed);
@@ -113,7 +113,7 @@ module _ (n : ℕ) (b : List ℕ) (o : Opens n [] b) where
   good-bytes r g = let e = bytes-still (r .handed) ∙ ap (total blockBytes) (g .out) in omega (arith, e, live-bytes n (room n [] b o .few-pages) (r .calls))
 
   going-eq : {b₁ b₂ f₁ f₂ : List ℕ} {m₁ m₂ : List ℕ} {o₁ o₂ y₁ y₂ h₁ h₂ : ℕ} → b₁ ≡ b₂ → m₁ ≡ m₂ → f₁ ≡ f₂ → o₁ ≡ o₂ → y₁ ≡ y₂ → h₁ ≡ h₂
-      → _≡_ {A = Going} (record { book = b₁; marks = m₁; figures = f₁; out = o₁; bytes = y₁; highest = h₁ }) (record { book = b₂; marks = m₂; figures = f₂; out = o₂; bytes = y₂; highest = h₂ })
+      → _≡_ {A = Going} (record { book = b₁; listed = m₁; figures = f₁; out = o₁; bytes = y₁; highest = h₁ }) (record { book = b₂; listed = m₂; figures = f₂; out = o₂; bytes = y₂; highest = h₂ })
   going-eq p q r s t u = cc
 
   module _ (r : Reach) (good : Good r) where
@@ -141,7 +141,7 @@ module _ (n : ℕ) (b : List ℕ) (o : Opens n [] b) where
       take-does : Words.does n (standing r) (Trace.take c) ≡ standing (does n r (Trace.take c))
       take-does =
           let e = ap (λ (es : List Entry). hs ++ map handed es) offered-is in
-          let ms : map markOf (hs ++ map handed (offered n r c)) ≡ map markOf hs ++ took = ap (map markOf) e ∙ marks-more hs (length xs) c 0 took in
+          let ms : map listedWord (hs ++ map handed (offered n r c)) ≡ map listedWord hs ++ took = ap (map listedWord) e ∙ listed-more hs (length xs) c 0 took in
           let k : total isOut (hs ++ map handed (offered n r c)) ≡ total isOut hs + many = ap (total isOut) e ∙ total-append isOut hs _ ∙ ap (λ (i : ℕ). total isOut hs + i) (out-more (length xs) c 0 took ∙ many-is) in
           let y : total bytesOf (hs ++ map handed (offered n r c)) ≡ total bytesOf hs + many * sizeOf c =
           ap (total bytesOf) e ∙ total-append bytesOf hs _ ∙ ap (λ (i : ℕ). total bytesOf hs + i) (bytes-more (length xs) c 0 took ∙ ap (λ (i : ℕ). i * sizeOf c) many-is) in
@@ -152,7 +152,7 @@ module _ (n : ℕ) (b : List ℕ) (o : Opens n [] b) where
       take-stops m =
           let few : ltb bytesMax (total bytesOf hs) ≡ false = le-ltb bytesMax (total bytesOf hs) (omega (arith, good-bytes r good, room n [] b o .few-pages)) in
           rw (take-step n b o xs c hc .code, few)
-          (ap₂ (λ (i j : ℕ). ltb (m .blocks) (i + j)) (length-map hs markOf) (sym (ap length offered-is ∙ entries-length (length xs) c 0 took ∙ many-is)))
+          (ap₂ (λ (i j : ℕ). ltb (m .blocks) (i + j)) (length-map hs listedWord) (sym (ap length offered-is ∙ entries-length (length xs) c 0 took ∙ many-is)))
 
       take-good : Good (does n r (Trace.take c))
       take-good =

@@ -34,11 +34,11 @@ use Rattle.model.proofs.Accounts.{held-le}
 use Rattle.model.proofs.Theorems.{conserved, best-fit}
 use Rattle.refinement.proofs.ArenaReached.{reached-after}
 use Rattle.refinement.proofs.DirectCalls.{direct-held}
-use Rattle.demands.specs.Run.{Opens, next, told}
+use Rattle.demands.specs.Run.{Opens, next, observed}
 use Rattle.demands.specs.Demands.{Grows, grew, elsewhere, exhausted, ungranted, Unused}
 use Rattle.demands.proofs.Calls.{room}
 use Rattle.demands.proofs.Histories.{next-agrees}
-use Rattle.demands.proofs.Told.{told-live, told-direct}
+use Rattle.demands.proofs.Observed.{observed-live, observed-direct}
 use Rattle.demands.proofs.Held.{grow-fits}
 use Rattle.demands.proofs.Places.{byte-held}
 
@@ -130,36 +130,36 @@ grows-inside (ungranted c) y = absurd (false≢true y)
 
 -- ---- an idle page is nobody's
 module _ (n : ℕ) (rows b : List ℕ) (o : Opens n rows b) (xs : List Call) where
-  idle-unused : (q m : ℕ) → q + m ≤ n → ((x : ℕ) → covers m q x ≤ idle x (heapAfter n (rulesOf rows) xs .arena)) → Unused n (told n rows b xs) q m
+  idle-unused : (q m : ℕ) → q + m ≤ n → ((x : ℕ) → covers m q x ≤ idle x (heapAfter n (rulesOf rows) xs .arena)) → Unused n (observed n rows b xs) q m
   idle-unused q m low f =
       let H = heapAfter n (rulesOf rows) xs in
       record {
         inside = low;
         offDirect = λ k l.
             let x = q + k in
-            told-direct n rows b o xs x ∙ conserved n (rulesOf rows) xs .direct x
+            observed-direct n rows b o xs x ∙ conserved n (rulesOf rows) xs .direct x
             ∙ by-cases (isDirect (H .holder x))
             (λ t. absurd (omega (arith, direct-held (H .holder x) t, f x, covers-in m q x (omega arith) (omega arith), conserved n (rulesOf rows) xs .one x)))
             (λ t. t);
         offBlocks = λ e l i h.
             let x = i / pageBytes in
-            let held = byte-held n (room n rows b o .few-pages) (rulesOf rows) xs e (told-live n rows b o xs e l) i h in
+            let held = byte-held n (room n rows b o .few-pages) (rulesOf rows) xs e (observed-live n rows b o xs e l) i h in
             by-cases (inRun m q x)
             (λ t. let c : covers m q x ≡ 1 = rw t in absurd (omega (arith, f x, c, held, held-le (e .class) (H .holder x), conserved n (rulesOf rows) xs .one x)))
             (λ t. t);
       }
 
-  pub commit-unused : (h m q : ℕ) (fresh : Bool) → next n rows b xs (Calls.commit h m) .answer ≡ Calls.run q fresh → Unused n (told n rows b xs) q m
+  pub commit-unused : (h m q : ℕ) (fresh : Bool) → next n rows b xs (Calls.commit h m) .answer ≡ Calls.run q fresh → Unused n (observed n rows b xs) q m
   commit-unused h m q fresh e =
       let s : runOf (step n (heapAfter n (rulesOf rows) xs) (Calls.commit h m) .answer) ≡ some q = ap runOf (sym (next-agrees n rows b o xs (Calls.commit h m) .answer) ∙ e) in
       let r = commit-run n (rulesOf rows) xs h m q s in
       idle-unused q m (commit-inside n (rulesOf rows) xs h m q r) (λ x. commit-idle n (rulesOf rows) xs h m q x r)
 
-  pub growth-unused : (h q old new : ℕ) → next n rows b xs (Calls.growFrontier h q old new) .answer ≡ Calls.grown true → Unused n (told n rows b xs) (q + old) (new - old)
+  pub growth-unused : (h q old new : ℕ) → next n rows b xs (Calls.growFrontier h q old new) .answer ≡ Calls.grown true → Unused n (observed n rows b xs) (q + old) (new - old)
   growth-unused h q old new e =
       let s : isGrown (step n (heapAfter n (rulesOf rows) xs) (Calls.growFrontier h q old new) .answer) ≡ true = ap isGrown (sym (next-agrees n rows b o xs (Calls.growFrontier h q old new) .answer) ∙ e) in
       let g = growth-yes n (rulesOf rows) xs h q old new s in
       idle-unused (q + old) (new - old) (grows-inside (grow-fits n h (q + old) (new - old) (heapAfter n (rulesOf rows) xs .arena)) g) (λ x. growth-idle n (rulesOf rows) xs h (q + old) (new - old) x g)
 
-  pub class-unused : (x : Call) (d : Named) (r : Hole) → names x ≡ some d → step n (heapAfter n (rulesOf rows) xs) x .run ≡ some r → Unused n (told n rows b xs) (r .first) (r .pages)
+  pub class-unused : (x : Call) (d : Named) (r : Hole) → names x ≡ some d → step n (heapAfter n (rulesOf rows) xs) x .run ≡ some r → Unused n (observed n rows b xs) (r .first) (r .pages)
   class-unused x d r e f = idle-unused (r .first) (r .pages) (class-inside n (rulesOf rows) xs x d r e f) (class-idle n (rulesOf rows) xs x d r e f)

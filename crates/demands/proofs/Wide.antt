@@ -28,7 +28,7 @@ use Rattle.trace.specs.Trace as Trace
 use Rattle.trace.specs.Trace.{say, sayOf}
 use Rattle.vigbuso.specs.Direct.{openFault, openOn}
 use Rattle.demands.specs.Call.{call}
-use Rattle.demands.specs.Start.{Start, pages, Starts, bookAfter, told}
+use Rattle.demands.specs.Start.{Start, pages, Starts, bookAfter, observed}
 use Rattle.demands.specs.Returns.{Twice, countFits, groupsFit, Plain}
 use Rattle.demands.specs.Wide.{Parts, Wide}
 use Rattle.demands.proofs.Calls as Opening
@@ -70,18 +70,18 @@ every-fails t x (y ∷ ys) m e =
     (λ d. rw (every-fails t x ys (rw d at m) e) (and-no (t y)))
 
 module _ (s : Start) (o : Starts s) (xs : List Call) where
-  out-low : (c w : ℕ) → OutIn (told s xs) c w → granuleOf w < pages s * pageGranules
+  out-low : (c w : ℕ) → OutIn (observed s xs) c w → granuleOf w < pages s * pageGranules
   out-low c w p =
       let e = p .entry in
       let ok = shape-sound (e .class) in
       let g : granuleOf (e .word) ≡ granuleOf w = ap granuleOf (p .word) in
       omega (arith, demand-2 s o xs .apart .inArena (p .entry) (p .live), g, ok .wide)
 
-  not-there : (c w : ℕ) → pages s * pageGranules ≤ granuleOf w → OutIn (told s xs) c w → ⊥
+  not-there : (c w : ℕ) → pages s * pageGranules ≤ granuleOf w → OutIn (observed s xs) c w → ⊥
   not-there c w h p = omega (arith, out-low c w p)
 
   -- a list of one word repeats nothing
-  once : (c w : ℕ) → Twice (told s xs) c (w ∷ []) → ⊥
+  once : (c w : ℕ) → Twice (observed s xs) c (w ∷ []) → ⊥
   once c w t = by-cases (eqb (t .word) w) (λ e. omega (arith, rw e at (t .times))) (λ e. omega (arith, rw e at (t .times)))
 
   beyond : (c : ℕ) (x : Call) (h w : ℕ) → h ≤ hostMax → names x ≡ some (record { class = c; request = Calls.giveBack h (w ∷ []) })
@@ -90,7 +90,7 @@ module _ (s : Start) (o : Starts s) (xs : List Call) where
       demand-2 s o xs .notOut c x h (w ∷ []) l e refl (rw k) (once c w) (λ a. not-there c w g (a .out w (rw (eq-eqb w w refl))))
 
   -- no listed block is on the group's page, so that its count is 0 or not the list's
-  module _ (c : ℕ) (ws : List ℕ) (a : AllOut (told s xs) c ws) (g : ℕ) (h : pages s ≤ pageOf g) where
+  module _ (c : ℕ) (ws : List ℕ) (a : AllOut (observed s xs) c ws) (g : ℕ) (h : pages s ≤ pageOf g) where
     elsewhere : (w : ℕ) → elem w ws ≡ true → eqb (pageAt w) (pageOf g) ≡ false
     elsewhere w m = ne-eqb (pageAt w) (pageOf g) (λ z. omega (arith, out-low c w (a .out w m)))
 
@@ -100,7 +100,7 @@ module _ (s : Start) (o : Starts s) (xs : List Call) where
     not-grouped : (gs : List ℕ) → elem g gs ≡ true → groupsFit ws gs ≡ false
     not-grouped gs m = rw (every-fails (countFits ws) g gs m count-differs) (and-no (distinct (map pageOf gs)))
 
-  beyond-chunk : (c h : ℕ) (ws gs fs : List ℕ) → c < 64 → Plain c h ws gs fs → AllOut (told s xs) c ws
+  beyond-chunk : (c h : ℕ) (ws gs fs : List ℕ) → c < 64 → Plain c h ws gs fs → AllOut (observed s xs) c ws
       → (g : ℕ) → elem g gs ≡ true → pages s ≤ pageOf g → call (bookAfter s xs) (Calls.releaseBinChunks c h ws gs fs) .answer ≡ Calls.refused 11
   beyond-chunk c h ws gs fs l p a g m k = demand-2 s o xs .notGrouped c h ws gs fs l p a (not-grouped c ws a g k gs m)
 
@@ -109,7 +109,7 @@ place-is : (k m p : ℕ) → say k m ≡ Trace.back p → p ≡ m
 place-is k m p h =
     by-cases (eqb k 0)
     (λ e. by-cases (ltb m 76) (λ f. never (rw (e, f) at h)) (λ f. unsaid (rw (e, f) at h)))
-    (λ e. by-cases (eqb k 1) (λ f. same (rw (e, f) at h)) (λ f. by-cases (eqb k 2 && eqb m 0) (λ z. untold (rw (e, f, z) at h)) (λ z. unsaid (rw (e, f, z) at h))))
+    (λ e. by-cases (eqb k 1) (λ f. same (rw (e, f) at h)) (λ f. by-cases (eqb k 2 && eqb m 0) (λ z. unreported (rw (e, f, z) at h)) (λ z. unsaid (rw (e, f, z) at h))))
   where
     never : Trace.take m ≡ Trace.back p → p ≡ m
     never z = let y : _≡_ {A = ℕ} 0 1 = cc in absurd (omega arith)
@@ -117,8 +117,8 @@ place-is k m p h =
     unsaid : Trace.wrong ≡ Trace.back p → p ≡ m
     unsaid z = let y : _≡_ {A = ℕ} 0 1 = cc in absurd (omega arith)
 
-    untold : Trace.report ≡ Trace.back p → p ≡ m
-    untold z = let y : _≡_ {A = ℕ} 0 1 = cc in absurd (omega arith)
+    unreported : Trace.report ≡ Trace.back p → p ≡ m
+    unreported z = let y : _≡_ {A = ℕ} 0 1 = cc in absurd (omega arith)
 
     same : Trace.back m ≡ Trace.back p → p ≡ m
     same z = cc

@@ -1,6 +1,6 @@
 -- What a caller sees of the exported functions, by their contracts alone (crates/vigbuso/src): on any book, any numbers and any list.
---     Shows    a call of the exported function of that name, on the book b, returns and leaves what the reply says
---     InTurn   calls in turn, each on the book as the last one left it, and what is seen of them
+--     Observes   a call of the exported function of that name, on the book b, returns and leaves what the reply says
+--     InTurn     calls in turn, each on the book as the last one left it, and what is seen of them
 -- r is what the function returns; a name with ′ is what a lent slice or an out-parameter holds afterwards.
 use Prim.Native.Nat.{ℕ}
 use mathlib.Core.Bool.{cond}
@@ -18,28 +18,28 @@ use Rattle.vigbuso.specs.Blocks.{takeOn, TakeEnds, ReleaseEnds, chunksOn, Chunk
 use Rattle.refinement.specs.Direct.{Reply, reply}
 
 -- a commit's two out-parameters: for none, the first page is the greatest number
-abbrev pub runSeen : ℕ → ℕ → Answer
-runSeen q f = cond (eqb q noPage) noRun (Calls.run q (eqb f 1))
+abbrev pub runObserved : ℕ → ℕ → Answer
+runObserved q f = cond (eqb q noPage) noRun (Calls.run q (eqb f 1))
 
 -- each premise is what the function ensures
-pub data Shows (b : List ℕ) : Call → Reply → Type 0 where
+pub data Observes (b : List ℕ) : Call → Reply → Type 0 where
   take-blocks : (c h r k k′ v v′ : ℕ) (b′ l l′ : List ℕ) → TakeEnds (takeOn 0 64 b c h l) r b′ l′ k k′ v v′
-      → Shows b (Calls.takeBlocks c h l) (reply r (taken k′ l′ (eqb v′ 1)) b′)
+      → Observes b (Calls.takeBlocks c h l) (reply r (taken k′ l′ (eqb v′ 1)) b′)
   medium-take-blocks : (c h r k k′ v v′ : ℕ) (b′ l l′ : List ℕ) → TakeEnds (takeOn 64 12 b c h l) r b′ l′ k k′ v v′
-      → Shows b (Calls.mediumTakeBlocks c h l) (reply r (taken k′ l′ (eqb v′ 1)) b′)
+      → Observes b (Calls.mediumTakeBlocks c h l) (reply r (taken k′ l′ (eqb v′ 1)) b′)
   release-blocks : (c h r f f′ : ℕ) (b′ ws : List ℕ) → ReleaseEnds (Blocks.releaseOn 0 64 b c h ws) r b′ f f′
-      → Shows b (Calls.releaseBlocks c h ws) (reply r (fate f′) b′)
+      → Observes b (Calls.releaseBlocks c h ws) (reply r (fate f′) b′)
   medium-release-blocks : (c h r f f′ : ℕ) (b′ ws : List ℕ) → ReleaseEnds (Blocks.releaseOn 64 12 b c h ws) r b′ f f′
-      → Shows b (Calls.mediumReleaseBlocks c h ws) (reply r (fate f′) b′)
+      → Observes b (Calls.mediumReleaseBlocks c h ws) (reply r (fate f′) b′)
   release-bin-chunks : (c h r : ℕ) (b′ ws gs fs fs′ : List ℕ) → ChunksEnds (chunksOn b c h ws gs fs) r b′ fs′
-      → Shows b (Calls.releaseBinChunks c h ws gs fs) (reply r (fates fs′) b′)
-  commit : (h m r q q′ f f′ : ℕ) (b′ : List ℕ) → CommitEnds (commitOn b h m) r b′ q q′ f f′ → Shows b (Calls.commit h m) (reply r (runSeen q′ f′) b′)
+      → Observes b (Calls.releaseBinChunks c h ws gs fs) (reply r (fates fs′) b′)
+  commit : (h m r q q′ f f′ : ℕ) (b′ : List ℕ) → CommitEnds (commitOn b h m) r b′ q q′ f f′ → Observes b (Calls.commit h m) (reply r (runObserved q′ f′) b′)
   grow-frontier : (h q old new r g g′ : ℕ) (b′ : List ℕ) → GrowEnds (growOn b h q old new) r b′ g g′
-      → Shows b (Calls.growFrontier h q old new) (reply r (Calls.grown (eqb g′ 1)) b′)
-  release : (h q m r : ℕ) (b′ : List ℕ) → Releases r b′ (Direct.releaseOn b h q m) → Shows b (Calls.release h q m) (reply r released b′)
-  contains : (o k r : ℕ) → r ≡ digit (containsOn b o k) → Shows b (Calls.contains o k) (reply 0 (contained (eqb r 1)) b)
-  report : (r : ℕ) (fs fs′ : List ℕ) → ReportEnds (reportOn b) r fs fs′ → Shows b Calls.report (reply r (reported (figuresIn fs′)) b)
+      → Observes b (Calls.growFrontier h q old new) (reply r (Calls.grown (eqb g′ 1)) b′)
+  release : (h q m r : ℕ) (b′ : List ℕ) → Releases r b′ (Direct.releaseOn b h q m) → Observes b (Calls.release h q m) (reply r released b′)
+  contains : (o k r : ℕ) → r ≡ digit (containsOn b o k) → Observes b (Calls.contains o k) (reply 0 (contained (eqb r 1)) b)
+  report : (r : ℕ) (fs fs′ : List ℕ) → ReportEnds (reportOn b) r fs fs′ → Observes b Calls.report (reply r (reported (figuresIn fs′)) b)
 
 pub data InTurn : List ℕ → List Call → List Reply → Type 0 where
   ends : (b : List ℕ) → InTurn b [] []
-  calls : (b : List ℕ) (x : Call) (w : Reply) (xs : List Call) (ws : List Reply) → Shows b x w → InTurn (w .book) xs ws → InTurn b (x ∷ xs) (w ∷ ws)
+  calls : (b : List ℕ) (x : Call) (w : Reply) (xs : List Call) (ws : List Reply) → Observes b x w → InTurn (w .book) xs ws → InTurn b (x ∷ xs) (w ∷ ws)

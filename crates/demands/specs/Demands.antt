@@ -33,7 +33,7 @@ use Rattle.refinement.specs.Direct.{Reply}
 use Rattle.refinement.specs.Run.{answersIn}
 use Rattle.demands.specs.Call.{call}
 use Rattle.demands.specs.Run.{answered, recounted, recountedWith}
-use Rattle.demands.specs.Start.{Start, pages, Starts, calls, bookAfter, replies, told, rules}
+use Rattle.demands.specs.Start.{Start, pages, Starts, calls, bookAfter, replies, observed, rules}
 use Rattle.demands.specs.Returns.{Twice, OneRun, ListOut, groupsFit, Plain, ChunksOut}
 
 -- ---- Demand 3, "one claim about whole histories, not one for each call"
@@ -42,10 +42,10 @@ pub record Demand3 : Type 0 where
   -- may have any) and whose calls are equal: its answers are equal exactly when what
   -- the arena gave it is, "worked from the opening over the arguments of all calls" (`events` sees no book)
   pub alone : (s₁ s₂ : Start) → Starts s₁ → Starts s₂ → (c : ℕ) → rules s₁ c ≡ rules s₂ c → (xs ys : List Call) → callsOf c (calls s₁ xs) ≡ callsOf c (calls s₂ ys)
-      → (answersOf c (told s₁ xs) ≡ answersOf c (told s₂ ys)) ↔ (runsOf c (events (pages s₁) (rules s₁) (calls s₁ xs)) ≡ runsOf c (events (pages s₂) (rules s₂) (calls s₂ ys)))
+      → (answersOf c (observed s₁ xs) ≡ answersOf c (observed s₂ ys)) ↔ (runsOf c (events (pages s₁) (rules s₁) (calls s₁ xs)) ≡ runsOf c (events (pages s₂) (rules s₂) (calls s₂ ys)))
   -- after every history, entries not yet released share a byte exactly when they are the same entry, and none has a byte of a page held
   -- by the direct calls
-  pub disjoint : (s : Start) → Starts s → (xs : List Call) → Disjoint (told s xs)
+  pub disjoint : (s : Start) → Starts s → (xs : List Call) → Disjoint (observed s xs)
 
 -- ---- Demand 2
 -- a commit answered by best fit: a hole of the least sufficient length, fresh pages only if no hole suffices, none with its reason

@@ -1,6 +1,6 @@
 -- Number 13 is one table: each test of the code is that every word which the call reads is in its range by Specs/Ranges, and, in a take,
 -- that each listed page which it comes to yields a block. For every book; n is LENGTH.
---     takeFair    a take's test: the frontier, then its source, which is the partial list as far as the take goes, or the newest empty
+--     takeValid   a take's test: the frontier, then its source, which is the partial list as far as the take goes, or the newest empty
 --                 page, or the newest cold one, or the arena
 --     Number13    the equations, one for each test of docs/RANGES.md, "Where each test stands"
 --     RowsDecide  a test looks at no word but those of the rows, and LENGTH
@@ -12,37 +12,37 @@ use lib.Dec.{eqb, leb}
 use Rattle.facts.specs.Lists.{All}
 use Rattle.classes.specs.declared.Shape.{Shape}
 use Rattle.fields.specs.Field.{arena, class, size, frontier, partial, empty, cold, get}
-use Rattle.arena.specs.Fair.{commitFair, giveFair, growFair, reportFair}
+use Rattle.arena.specs.Valid.{commitValid, giveValid, growValid, reportValid}
 use Rattle.pages.specs.declared.Park.the-variants.{Empty, Cold}
-use Rattle.calls.specs.Take.{walk, parkFair}
+use Rattle.calls.specs.Take.{walk, parkValid}
 use Rattle.calls.specs.Out.{unmarked}
-use Rattle.calls.specs.Release.{releaseFair}
-use Rattle.calls.specs.Chunks.{chunksFair}
-use Rattle.poolcalls.specs.Calls.{countFair, topFair}
+use Rattle.calls.specs.Release.{releaseValid}
+use Rattle.calls.specs.Chunks.{chunksValid}
+use Rattle.poolcalls.specs.Calls.{countValid, topValid}
 use Rattle.demands.specs.Ranges.{Use, value, fits}
 use Rattle.demands.specs.Reads.{commitReads, giveReads, reportReads, takeReads, yieldAll, markReads, releaseReads, chunksReads, growReads, stockReads, topReads}
 
-unfoldable pub takeFair : ℕ → List ℕ → ℕ → Shape → Bool
-takeFair n b c sh =
+unfoldable pub takeValid : ℕ → List ℕ → ℕ → Shape → Bool
+takeValid n b c sh =
     leb (get b (arena frontier)) n
     && cond (not (eqb (get b (class partial c)) 0)) (walk n b c sh (sh .batch) (sh .batch) (get b (class partial c)) 0)
-    (cond (not (eqb (get b (class empty c)) 0)) (parkFair n b c sh Empty)
-    (cond (not (eqb (get b (class cold c)) 0)) (parkFair n b c sh Cold)
-    (commitFair n b)))
+    (cond (not (eqb (get b (class empty c)) 0)) (parkValid n b c sh Empty)
+    (cond (not (eqb (get b (class cold c)) 0)) (parkValid n b c sh Cold)
+    (commitValid n b)))
 
 pub record Number13 (b : List ℕ) : Type 0 where
-  pub commit : commitFair (get b (arena size)) b ≡ fits b (commitReads b)
-  pub give : (m : ℕ) → giveFair (get b (arena size)) b m ≡ fits b (giveReads b m)
-  pub grow : (h e m : ℕ) → growFair (get b (arena size)) b h e m ≡ fits b (growReads b h e m)
-  pub report : reportFair (get b (arena size)) b ≡ fits b reportReads
-  pub take : (c : ℕ) (sh : Shape) → takeFair (get b (arena size)) b c sh ≡ (fits b (takeReads b c sh) && yieldAll b c sh)
+  pub commit : commitValid (get b (arena size)) b ≡ fits b (commitReads b)
+  pub give : (m : ℕ) → giveValid (get b (arena size)) b m ≡ fits b (giveReads b m)
+  pub grow : (h e m : ℕ) → growValid (get b (arena size)) b h e m ≡ fits b (growReads b h e m)
+  pub report : reportValid (get b (arena size)) b ≡ fits b reportReads
+  pub take : (c : ℕ) (sh : Shape) → takeValid (get b (arena size)) b c sh ≡ (fits b (takeReads b c sh) && yieldAll b c sh)
   -- before number 15, then with the other words
   pub marks : (c : ℕ) (sh : Shape) (ws : List ℕ) → unmarked (get b (arena size)) b c sh ws ≡ fits b (markReads b c sh ws)
-  pub release : (c : ℕ) (sh : Shape) (m q : ℕ) → releaseFair (get b (arena size)) b c sh m q ≡ fits b (releaseReads b c sh m q)
-  pub chunks : (c : ℕ) (sh : Shape) (gs : List ℕ) → chunksFair (get b (arena size)) b c sh gs ≡ fits b (chunksReads b c sh gs)
+  pub release : (c : ℕ) (sh : Shape) (m q : ℕ) → releaseValid (get b (arena size)) b c sh m q ≡ fits b (releaseReads b c sh m q)
+  pub chunks : (c : ℕ) (sh : Shape) (gs : List ℕ) → chunksValid (get b (arena size)) b c sh gs ≡ fits b (chunksReads b c sh gs)
   -- the pool's, before it goes to the heap: a free that finds its stock full, an alloc and a trim that have the top
-  pub stock : (c : ℕ) → countFair b c ≡ fits b (stockReads c)
-  pub top : (c : ℕ) → topFair (get b (arena size)) b c ≡ fits b (topReads b c)
+  pub stock : (c : ℕ) → countValid b c ≡ fits b (stockReads c)
+  pub top : (c : ℕ) → topValid (get b (arena size)) b c ≡ fits b (topReads b c)
 
 -- ---- the rows are all that the tests look at
 -- two books with one LENGTH and the same word in each of these rows
@@ -51,11 +51,11 @@ Alike b b′ us = (get b (arena size) ≡ get b′ (arena size)) × All (λ u. v
 
 -- such books pass or fail a call's test alike, whatever their other words are
 pub record RowsDecide (b b′ : List ℕ) : Type 0 where
-  pub commit : Alike b b′ (commitReads b) → commitFair (get b (arena size)) b ≡ commitFair (get b′ (arena size)) b′
-  pub give : (m : ℕ) → Alike b b′ (giveReads b m) → giveFair (get b (arena size)) b m ≡ giveFair (get b′ (arena size)) b′ m
-  pub grow : (h e m : ℕ) → Alike b b′ (growReads b h e m) → growFair (get b (arena size)) b h e m ≡ growFair (get b′ (arena size)) b′ h e m
-  pub report : Alike b b′ reportReads → reportFair (get b (arena size)) b ≡ reportFair (get b′ (arena size)) b′
-  pub take : (c : ℕ) (sh : Shape) → Alike b b′ (takeReads b c sh) → takeFair (get b (arena size)) b c sh ≡ takeFair (get b′ (arena size)) b′ c sh
+  pub commit : Alike b b′ (commitReads b) → commitValid (get b (arena size)) b ≡ commitValid (get b′ (arena size)) b′
+  pub give : (m : ℕ) → Alike b b′ (giveReads b m) → giveValid (get b (arena size)) b m ≡ giveValid (get b′ (arena size)) b′ m
+  pub grow : (h e m : ℕ) → Alike b b′ (growReads b h e m) → growValid (get b (arena size)) b h e m ≡ growValid (get b′ (arena size)) b′ h e m
+  pub report : Alike b b′ reportReads → reportValid (get b (arena size)) b ≡ reportValid (get b′ (arena size)) b′
+  pub take : (c : ℕ) (sh : Shape) → Alike b b′ (takeReads b c sh) → takeValid (get b (arena size)) b c sh ≡ takeValid (get b′ (arena size)) b′ c sh
   -- where the same blocks are out in both, as numbers 15 and 10 see them
   pub marks : (c : ℕ) (sh : Shape) (ws : List ℕ)
       → markReads b c sh ws ≡ markReads b′ c sh ws
@@ -63,9 +63,9 @@ pub record RowsDecide (b b′ : List ℕ) : Type 0 where
       → unmarked (get b (arena size)) b c sh ws ≡ unmarked (get b′ (arena size)) b′ c sh ws
   pub release : (c : ℕ) (sh : Shape) (m q : ℕ)
       → Alike b b′ (releaseReads b c sh m q)
-      → releaseFair (get b (arena size)) b c sh m q ≡ releaseFair (get b′ (arena size)) b′ c sh m q
+      → releaseValid (get b (arena size)) b c sh m q ≡ releaseValid (get b′ (arena size)) b′ c sh m q
   pub chunks : (c : ℕ) (sh : Shape) (gs : List ℕ)
       → Alike b b′ (chunksReads b c sh gs)
-      → chunksFair (get b (arena size)) b c sh gs ≡ chunksFair (get b′ (arena size)) b′ c sh gs
-  pub stock : (c : ℕ) → Alike b b′ (stockReads c) → countFair b c ≡ countFair b′ c
-  pub top : (c : ℕ) → Alike b b′ (topReads b c) → topFair (get b (arena size)) b c ≡ topFair (get b′ (arena size)) b′ c
+      → chunksValid (get b (arena size)) b c sh gs ≡ chunksValid (get b′ (arena size)) b′ c sh gs
+  pub stock : (c : ℕ) → Alike b b′ (stockReads c) → countValid b c ≡ countValid b′ c
+  pub top : (c : ℕ) → Alike b b′ (topReads b c) → topValid (get b (arena size)) b c ≡ topValid (get b′ (arena size)) b′ c

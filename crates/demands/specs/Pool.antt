@@ -1,9 +1,9 @@
 -- The pool over the exported functions (docs/CALLS.md, "The pool"), as statements about every history from an opening: allocs, frees and trims of any
 -- class, direct commits, growths and `release`s, `contains` and reports, refused ones included. All is told from calls and answers, and
 -- from the book that a history leaves. proofs/PoolTheorems proves them.
---     poolCall     one call on any book, by the definitions that the exported functions' contracts cite
---     poolRun      what is answered to the calls of a history; `poolBook` is the book that it leaves
---     poolTold     the calls with their answers, in the words of document 01's histories: an alloc is a take of one block, a free a release of one
+--     poolCall         one call on any book, by the definitions that the exported functions' contracts cite
+--     poolRun          what is answered to the calls of a history; `poolBook` is the book that it leaves
+--     poolObserved     the calls with their answers, in the words of document 01's histories: an alloc is a take of one block, a free a release of one
 use Prim.Native.Nat.{ℕ, _≤_}
 use mathlib.Core.Path.{_≡_}
 use mathlib.Core.Logic.{_⊎_, _↔_}
@@ -26,40 +26,40 @@ use Rattle.model.specs.Demands.{Disjoint}
 use Rattle.arena.specs.Load.{loadArena}
 use Rattle.calls.specs.Out.{outAt}
 use Rattle.pool.specs.Stock.{stockRoom}
-use Rattle.pool.specs.Pool.{PoolCall, PoolAnswer, Wish, Direct, to, direct, alloc, free, trim, callBy, answered, refused, trimmed, noBlock, freed}
-use Rattle.pool.specs.Told.{PoolEvent, toldOf, poolEvents, heapCalls, poolCallsOf, poolAnswersOf, poolRunsOf}
+use Rattle.pool.specs.Pool.{PoolCall, PoolAnswer, PoolRequest, Direct, to, direct, alloc, free, trim, callBy, answered, refused, trimmed, noBlock, freed}
+use Rattle.pool.specs.Observed.{PoolEvent, observedOf, poolEvents, heapCalls, poolCallsOf, poolAnswersOf, poolRunsOf}
 use Rattle.poolcalls.specs.Stock.{stockIn}
-use Rattle.poolcalls.specs.Calls.{Said, said}
+use Rattle.poolcalls.specs.Calls.{PoolReply, poolReply}
 use Rattle.vigbuso.specs.Direct.{openOn}
 use Rattle.vigbuso.specs.Pool.{poolOn, classOn, grantedOn, stockedOn}
 use Rattle.poolcalls.specs.HeapWords.{heapWord}
-use Rattle.poolrefinement.specs.Run.{saidFrom, bookFrom}
+use Rattle.poolrefinement.specs.Run.{poolAnswersFrom, bookFrom}
 use Rattle.demands.specs.Call.{call}
 use Rattle.refinement.specs.Run.{repliesFrom, answersIn}
 use Rattle.demands.specs.Run.{Opens, bookAfter}
 
 -- vigbuso_alloc, vigbuso_free, vigbuso_trim, and the direct calls
-unfoldable pub poolCall : List ℕ → PoolCall → Said
+unfoldable pub poolCall : List ℕ → PoolCall → PoolReply
 poolCall b (to c x) = poolOn b c x
-poolCall b (direct d) = said (answered (call b (callBy d) .answer)) (call b (callBy d) .book)
+poolCall b (direct d) = poolReply (answered (call b (callBy d) .answer)) (call b (callBy d) .book)
 
 abbrev pub poolRun : ℕ → List ℕ → List ℕ → List PoolCall → List PoolAnswer
-poolRun n rows b xs = saidFrom poolCall (openOn b n rows .book) xs
+poolRun n rows b xs = poolAnswersFrom poolCall (openOn b n rows .book) xs
 
 abbrev pub poolBook : ℕ → List ℕ → List ℕ → List PoolCall → List ℕ
 poolBook n rows b xs = bookFrom poolCall (openOn b n rows .book) xs
 
 -- what the arena gives at a call is not told
-abbrev pub heard : List PoolCall → List PoolAnswer → List PoolEvent
-heard [] zs = []
-heard (x ∷ xs) [] = []
-heard (x ∷ xs) (a ∷ zs) = record { call = x; answer = a; run = none } ∷ heard xs zs
+abbrev pub recorded : List PoolCall → List PoolAnswer → List PoolEvent
+recorded [] zs = []
+recorded (x ∷ xs) [] = []
+recorded (x ∷ xs) (a ∷ zs) = record { call = x; answer = a; run = none } ∷ recorded xs zs
 
-abbrev pub poolHeard : ℕ → List ℕ → List ℕ → List PoolCall → List PoolEvent
-poolHeard n rows b xs = heard xs (poolRun n rows b xs)
+abbrev pub poolRecorded : ℕ → List ℕ → List ℕ → List PoolCall → List PoolEvent
+poolRecorded n rows b xs = recorded xs (poolRun n rows b xs)
 
-abbrev pub poolTold : ℕ → List ℕ → List ℕ → List PoolCall → List Event
-poolTold n rows b xs = toldOf (poolHeard n rows b xs)
+abbrev pub poolObserved : ℕ → List ℕ → List ℕ → List PoolCall → List Event
+poolObserved n rows b xs = observedOf (poolRecorded n rows b xs)
 
 -- numbers 3 and 4; then a free is carried out exactly if its block is a grant of that class not yet freed, and else is number 9 or 10
 pub record FreeAnswers (b : List ℕ) (vs : List Event) (c h w : ℕ) : Type 0 where
@@ -89,8 +89,8 @@ pub record PoolAt (n : ℕ) (rows d : List ℕ) (vs : List Event) (made : List C
   -- part of the book is what they leave)
   pub made-done : All (λ v. isSome (names (v .call)) ≡ true → isRefused (v .answer) ≡ false) (events n (rulesOf rows) made)
   -- a call that is refused has number 3, 4, 9 or 10 (and leaves the book, as Specs/PoolRefusals says of every book); 13 never answers, a direct call neither
-  pub numbers : (c : ℕ) (x : Wish) (k : ℕ) → poolOn d c x .answer ≡ refused k → elem k (3 ∷ 4 ∷ 9 ∷ 10 ∷ []) ≡ true
-  pub fair : (y : Direct) → call d (callBy y) .code ≡ 13 → ⊥
+  pub numbers : (c : ℕ) (x : PoolRequest) (k : ℕ) → poolOn d c x .answer ≡ refused k → elem k (3 ∷ 4 ∷ 9 ∷ 10 ∷ []) ≡ true
+  pub valid : (y : Direct) → call d (callBy y) .code ≡ 13 → ⊥
   -- a block out at the heap is granted or in stock, and each of these once
   pub out : (c w : ℕ) → ltb c classCount ≡ true → ofKind (shapeOf c .kind) w ≡ true
       → (outAt n d c (shapeOf c) w ≡ true) ↔ (OutIn vs c w ⊎ (elem w (stockIn d c) ≡ true))
@@ -105,7 +105,7 @@ pub record PoolAt (n : ℕ) (rows d : List ℕ) (vs : List Event) (made : List C
   pub trimmed : (c h : ℕ) → badHost h ≡ false → ltb c classCount ≡ true → TrimAnswers d c h
 
 pub record PoolDemand : Type 0 where
-  pub after : (n : ℕ) (rows b : List ℕ) → Opens n rows b → (xs : List PoolCall) → PoolAt n rows (poolBook n rows b xs) (poolTold n rows b xs) (heapCalls n (rulesOf rows) xs)
+  pub after : (n : ℕ) (rows b : List ℕ) → Opens n rows b → (xs : List PoolCall) → PoolAt n rows (poolBook n rows b xs) (poolObserved n rows b xs) (heapCalls n (rulesOf rows) xs)
   -- each call answers what the pool's rules say
   pub rules : (n : ℕ) (rows b : List ℕ) → Opens n rows b → (xs : List PoolCall) → poolRun n rows b xs ≡ map (λ v. v .answer) (poolEvents n (rulesOf rows) xs)
   -- as many trims as there are blocks in stock, or more, leave none there: what is out then is granted
@@ -115,7 +115,7 @@ pub record PoolDemand : Type 0 where
   -- it is, worked from the opening over the arguments of all calls (`poolEvents` sees no book)
   pub alone : (n₁ n₂ : ℕ) (rows₁ rows₂ b₁ b₂ : List ℕ) → Opens n₁ rows₁ b₁ → Opens n₂ rows₂ b₂ → (c : ℕ) → rulesOf rows₁ c ≡ rulesOf rows₂ c
       → (xs ys : List PoolCall) → poolCallsOf c xs ≡ poolCallsOf c ys
-      → (poolAnswersOf c (poolHeard n₁ rows₁ b₁ xs) ≡ poolAnswersOf c (poolHeard n₂ rows₂ b₂ ys))
+      → (poolAnswersOf c (poolRecorded n₁ rows₁ b₁ xs) ≡ poolAnswersOf c (poolRecorded n₂ rows₂ b₂ ys))
       ↔ (poolRunsOf c (poolEvents n₁ (rulesOf rows₁) xs) ≡ poolRunsOf c (poolEvents n₂ (rulesOf rows₂) ys))
   -- the heap's part of the book is what the heap's calls leave: every further history of these is answered as on the book that they leave by themselves
   pub heapPart : (n : ℕ) (rows b : List ℕ) → Opens n rows b → (xs : List PoolCall) (ys : List Call)

@@ -1,8 +1,8 @@
 -- What a caller sees of one call of the pool, and of calls in turn, by the contracts of the exported functions alone; Specs/Contracts has it of the heap's.
 -- Assumes nothing.
---     blockSeen    what is read from the number and the out-parameter of an alloc or a trim; `got` names a block
---     freeSeen     from a free's number
---     PoolShows    b is the book before the call
+--     blockObserved    what is read from the number and the out-parameter of an alloc or a trim; `got` names a block
+--     freeObserved     from a free's number
+--     PoolObserves     b is the book before the call
 use Prim.Native.Nat.{ℕ}
 use mathlib.Core.Bool.{cond}
 use mathlib.Core.List.{List, [], _∷_}
@@ -10,24 +10,24 @@ use lib.Dec.{eqb}
 use Rattle.refinement.specs.Direct.{Reply}
 use Rattle.pool.specs.Pool as Pool
 use Rattle.pool.specs.Pool.{PoolCall, PoolAnswer, Direct, to, callBy, refused, granted, trimmed, noBlock, freed, answered}
-use Rattle.poolcalls.specs.Calls.{Said, said}
+use Rattle.poolcalls.specs.Calls.{PoolReply, poolReply}
 use Rattle.vigbuso.specs.Pool.{poolOn, BlockEnds, FreeEnds}
-use Rattle.demands.specs.Contracts.{Shows}
+use Rattle.demands.specs.Contracts.{Observes}
 
 -- the word of kind 0 is none
-abbrev pub blockSeen : (ℕ → PoolAnswer) → ℕ → ℕ → PoolAnswer
-blockSeen got r w = cond (eqb r 0) (cond (eqb w 0) noBlock (got w)) (refused r)
+abbrev pub blockObserved : (ℕ → PoolAnswer) → ℕ → ℕ → PoolAnswer
+blockObserved got r w = cond (eqb r 0) (cond (eqb w 0) noBlock (got w)) (refused r)
 
-abbrev pub freeSeen : ℕ → PoolAnswer
-freeSeen r = cond (eqb r 0) freed (refused r)
+abbrev pub freeObserved : ℕ → PoolAnswer
+freeObserved r = cond (eqb r 0) freed (refused r)
 
 -- each premise is what the function ensures
-pub data PoolShows (b : List ℕ) : PoolCall → Said → Type 0 where
-  alloc : (c h r w w′ : ℕ) (b′ : List ℕ) → BlockEnds (poolOn b c (Pool.alloc h)) r b′ w w′ → PoolShows b (to c (Pool.alloc h)) (said (blockSeen granted r w′) b′)
-  free : (c h w r : ℕ) (b′ : List ℕ) → FreeEnds (poolOn b c (Pool.free h w)) r b′ → PoolShows b (to c (Pool.free h w)) (said (freeSeen r) b′)
-  trim : (c h r w w′ : ℕ) (b′ : List ℕ) → BlockEnds (poolOn b c (Pool.trim h)) r b′ w w′ → PoolShows b (to c (Pool.trim h)) (said (blockSeen trimmed r w′) b′)
-  direct : (d : Direct) (w : Reply) → Shows b (callBy d) w → PoolShows b (Pool.direct d) (said (answered (w .answer)) (w .book))
+pub data PoolObserves (b : List ℕ) : PoolCall → PoolReply → Type 0 where
+  alloc : (c h r w w′ : ℕ) (b′ : List ℕ) → BlockEnds (poolOn b c (Pool.alloc h)) r b′ w w′ → PoolObserves b (to c (Pool.alloc h)) (poolReply (blockObserved granted r w′) b′)
+  free : (c h w r : ℕ) (b′ : List ℕ) → FreeEnds (poolOn b c (Pool.free h w)) r b′ → PoolObserves b (to c (Pool.free h w)) (poolReply (freeObserved r) b′)
+  trim : (c h r w w′ : ℕ) (b′ : List ℕ) → BlockEnds (poolOn b c (Pool.trim h)) r b′ w w′ → PoolObserves b (to c (Pool.trim h)) (poolReply (blockObserved trimmed r w′) b′)
+  direct : (d : Direct) (w : Reply) → Observes b (callBy d) w → PoolObserves b (Pool.direct d) (poolReply (answered (w .answer)) (w .book))
 
-pub data PoolInTurn : List ℕ → List PoolCall → List Said → Type 0 where
+pub data PoolInTurn : List ℕ → List PoolCall → List PoolReply → Type 0 where
   ends : (b : List ℕ) → PoolInTurn b [] []
-  calls : (b : List ℕ) (x : PoolCall) (s : Said) (xs : List PoolCall) (ss : List Said) → PoolShows b x s → PoolInTurn (s .book) xs ss → PoolInTurn b (x ∷ xs) (s ∷ ss)
+  calls : (b : List ℕ) (x : PoolCall) (s : PoolReply) (xs : List PoolCall) (ss : List PoolReply) → PoolObserves b x s → PoolInTurn (s .book) xs ss → PoolInTurn b (x ∷ xs) (s ∷ ss)

@@ -74,15 +74,15 @@ bookTable b =
     let n = get b (arena size) in
     (1, badLength n) ∷ (2, tooShort n b) ∷ []
 
-abbrev pub lookEarly : List ℕ → ℕ → List Row
-lookEarly b c = bookTable b ++ (4, noClass classCount c) ∷ []
+abbrev pub queryEarly : List ℕ → ℕ → List Row
+queryEarly b c = bookTable b ++ (4, noClass classCount c) ∷ []
 
 -- what vigbuso_free asks of the block
 abbrev pub grantedTable : List ℕ → ℕ → ℕ → List Row
-grantedTable b c w = lookEarly b c ++ (9, not (ofKind (shapeOf c .kind) w)) ∷ (10, not (grantedIn (get b (arena size)) b c w)) ∷ []
+grantedTable b c w = queryEarly b c ++ (9, not (ofKind (shapeOf c .kind) w)) ∷ (10, not (grantedIn (get b (arena size)) b c w)) ∷ []
 
 abbrev pub stockedTable : List ℕ → ℕ → List Row
-stockedTable b c = lookEarly b c ++ (13, strays b (stockReads c)) ∷ []
+stockedTable b c = queryEarly b c ++ (13, strays b (stockReads c)) ∷ []
 
 pub record GrantedAnswer (b : List ℕ) (c w r : ℕ) : Type 0 where
   pub plain : r ≤ 1
@@ -96,7 +96,7 @@ pub record StockedAnswer (b : List ℕ) (c r : ℕ) : Type 0 where
 pub record ClassAnswer (b : List ℕ) (w r : ℕ) : Type 0 where
   pub low : r ≤ classCount
   pub granted : (c : ℕ) → firstNumber (grantedTable b c w) ≡ 0 → r ≡ c
-  pub owned : (c : ℕ) → firstNumber (lookEarly b c) ≡ 0 → (r ≡ c) ↔ ((pageAt w < get b (arena size)) × (get b (page owner (pageAt w)) ≡ suc c))
+  pub owned : (c : ℕ) → firstNumber (queryEarly b c) ≡ 0 → (r ≡ c) ↔ ((pageAt w < get b (arena size)) × (get b (page owner (pageAt w)) ≡ suc c))
   pub none : (firstNumber (bookTable b) ≡ 0 → ⊥) → r ≡ classCount
 
 pub record PoolDemand1 : Type 0 where

@@ -45,7 +45,7 @@ pub data Use : Type 0 where
   counted : ArenaField → Use
   -- each hole i: its pages where a commit reads it, and where a give does; its end
   holeSome : ℕ → Use
-  holeBeside : ℕ → Use
+  neighbourHole : ℕ → Use
   holeEnds : ℕ → Use
   -- a code; and where a take comes to its page, which is the first of m
   code : Link → Use
@@ -88,7 +88,7 @@ value b heldFits = get b (arena held)
 value b (heldGives k) = get b (arena held)
 value b (counted k) = get b (arena k)
 value b (holeSome i) = get b (hole pages i)
-value b (holeBeside i) = get b (hole pages i)
+value b (neighbourHole i) = get b (hole pages i)
 value b (holeEnds i) = get b (hole start i)
 value b (code f) = get b (linkField f)
 value b (visited f m) = get b (linkField f)
@@ -122,7 +122,7 @@ range b heldFits = upTo (get b (arena size))
 range b (heldGives k) = between k (get b (arena size))
 range b (counted k) = anyValue
 range b (holeSome i) = between 1 (get b (arena holePages))
-range b (holeBeside i) = between 1 (get b (arena frontier))
+range b (neighbourHole i) = between 1 (get b (arena frontier))
 range b (holeEnds i) = endsBy (get b (hole pages i)) (get b (arena frontier))
 range b (code f) = upTo (get b (arena frontier))
 range b (visited f m) = runsTo m (get b (arena frontier))

@@ -20,13 +20,13 @@ use Rattle.words.specs.Word.{countOf, pageOf}
 use Rattle.classes.specs.declared.Shape.{Shape}
 use Rattle.classes.specs.Shape.{classCount}
 use Rattle.fields.specs.Field.{arena, class, page, size, commits, commitsHigh, reuses, reusesHigh, abandoned, abandonedHigh, holes, partial, empty, cold, free, carved, listed, get}
-use Rattle.model.specs.Spot.{isArena}
+use Rattle.model.specs.Destination.{isArena}
 use Rattle.pages.specs.Stack.{indexOf}
 use Rattle.calls.specs.Out.{startOf, outs}
-use Rattle.calls.specs.Release.{spotAt}
+use Rattle.calls.specs.Release.{destinationAt}
 use Rattle.calls.specs.Chunks.{pagesGiven}
-use Rattle.demands.specs.Ranges.{Link, partialOf, emptyOf, coldOf, nextOf, prevOf, linkField, Use, stateKnown, frontierFits, holesFew, holePagesFew, heldFits, heldGives, counted, holeSome, holeEnds, code, visited, emptyFew, emptyTaken, coldFew, coldTaken, ownerIs, firstIs, prevIs, listedYes, listedNo, freeFits, entryCarved, markClear, freeWith, listedFlag, carvedFits, virginFlag, holeBeside, emptyLimited, coldLimited, stockFew, entryLow}
-use Rattle.arena.specs.Fair.{growGives}
+use Rattle.demands.specs.Ranges.{Link, partialOf, emptyOf, coldOf, nextOf, prevOf, linkField, Use, stateKnown, frontierFits, holesFew, holePagesFew, heldFits, heldGives, counted, holeSome, holeEnds, code, visited, emptyFew, emptyTaken, coldFew, coldTaken, ownerIs, firstIs, prevIs, listedYes, listedNo, freeFits, entryCarved, markClear, freeWith, listedFlag, carvedFits, virginFlag, neighbourHole, emptyLimited, coldLimited, stockFew, entryLow}
+use Rattle.arena.specs.Valid.{growGives}
 use Rattle.poolcalls.specs.Stock.{countIn}
 
 -- ---- the arena
@@ -44,19 +44,19 @@ holeReads i (suc k) = holeSome i ∷ holeEnds i ∷ holeReads (suc i) k
 unfoldable pub commitReads : List ℕ → List Use
 commitReads b = recordReads ++ holeReads 0 (get b (arena holes))
 
-unfoldable pub besideReads : ℕ → ℕ → List Use
-besideReads i zero = []
-besideReads i (suc k) = holeBeside i ∷ holeEnds i ∷ besideReads (suc i) k
+unfoldable pub neighboursReads : ℕ → ℕ → List Use
+neighboursReads i zero = []
+neighboursReads i (suc k) = neighbourHole i ∷ holeEnds i ∷ neighboursReads (suc i) k
 
 unfoldable pub givenReads : ℕ → List Use
 givenReads m = stateKnown ∷ frontierFits ∷ holesFew ∷ holePagesFew ∷ heldGives m ∷ countReads
 
 unfoldable pub giveReads : List ℕ → ℕ → List Use
-giveReads b m = givenReads m ++ besideReads 0 (get b (arena holes))
+giveReads b m = givenReads m ++ neighboursReads 0 (get b (arena holes))
 
 -- the holes where the added pages are given
 unfoldable pub growReads : List ℕ → ℕ → ℕ → ℕ → List Use
-growReads b h e m = recordReads ++ cond (growGives (get b (arena size)) b h e m) (besideReads 0 (get b (arena holes))) []
+growReads b h e m = recordReads ++ cond (growGives (get b (arena size)) b h e m) (neighboursReads 0 (get b (arena holes))) []
 
 -- how many runs these classes have parked
 unfoldable pub parkedReads : List ℕ → List Use
@@ -164,7 +164,7 @@ releaseReads b c sh m q =
     frontierFits
     ∷ (backReads b sh m q
     ++ (rowReads c
-    ++ cond (eqb (get b (page free q) + m) (get b (page carved q)) && isArena (spotAt b c sh)) (giveReads b (sh .pages)) []))
+    ++ cond (eqb (get b (page free q) + m) (get b (page carved q)) && isArena (destinationAt b c sh)) (giveReads b (sh .pages)) []))
 
 unfoldable pub backsReads : List ℕ → Shape → List ℕ → List Use
 backsReads b sh [] = []

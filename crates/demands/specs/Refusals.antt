@@ -316,7 +316,7 @@ TraceRefuses =
 -- "Sizes and `contains` refuse nothing": `contains` is 1 or 0, yes or no, and no "on a book that 1, 2 or 13 would refuse"; on any other it is
 -- yes exactly if the k bytes from offset o on are the arena's, by the length and the reservation that stand in the book
 pub record ContainedIn (b : List ℕ) (o k : ℕ) : Type 0 where
-  pub fair : firstNumber (containsTable b) ≡ 0
+  pub valid : firstNumber (containsTable b) ≡ 0
   pub within : Contained (get b (arena size)) (loadArena b .status) o k
 
 pub record Contains (b : List ℕ) (o k r : ℕ) : Type 0 where

@@ -9,7 +9,7 @@ use mathlib.Core.Path.{_≡_}
 use lib.Dec.{eqb}
 use Rattle.model.specs.Calls.{Call, Named, names}
 use Rattle.model.specs.History.{answersOf}
-use Rattle.demands.specs.Start.{Start, bookAfter, told}
+use Rattle.demands.specs.Start.{Start, bookAfter, observed}
 use Rattle.demands.specs.ChangePlaces.{reaches}
 
 pub data Reorders (s : Start) : List Call → List Call → Type 0 where
@@ -19,4 +19,4 @@ pub data Reorders (s : Start) : List Call → List Call → Type 0 where
 
 pub record Reordered (s : Start) (xs ys : List Call) : Type 0 where
   pub book : bookAfter s xs ≡ bookAfter s ys
-  pub answers : (c : ℕ) → answersOf c (told s xs) ≡ answersOf c (told s ys)
+  pub answers : (c : ℕ) → answersOf c (observed s xs) ≡ answersOf c (observed s ys)

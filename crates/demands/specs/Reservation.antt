@@ -9,11 +9,11 @@ use Rattle.model.specs.Calls.{Call, contained}
 use Rattle.model.specs.Reservation.{reservation, Contained}
 use Rattle.arena.specs.Load.{loadArena}
 use Rattle.demands.specs.Call.{call}
-use Rattle.demands.specs.Start.{Start, pages, bookAfter, told}
+use Rattle.demands.specs.Start.{Start, pages, bookAfter, observed}
 
 -- after the calls xs since a start
 pub record Reserved (s : Start) (xs : List Call) : Type 0 where
   -- the first commit or take that is not refused has the reservation granted or refused, for good, by its bit 0; no other call changes it
-  pub status : loadArena (bookAfter s xs) .status ≡ reservation (told s xs)
+  pub status : loadArena (bookAfter s xs) .status ≡ reservation (observed s xs)
   -- `contains` is yes exactly if it is granted, and the bytes lie in the arena; `ContainedIn` (Refusals) has it of any book
-  pub contains : (o k : ℕ) → (call (bookAfter s xs) (Calls.contains o k) .answer ≡ contained true) ↔ Contained (pages s) (reservation (told s xs)) o k
+  pub contains : (o k : ℕ) → (call (bookAfter s xs) (Calls.contains o k) .answer ≡ contained true) ↔ Contained (pages s) (reservation (observed s xs)) o k

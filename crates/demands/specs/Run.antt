@@ -2,7 +2,7 @@
 --     Opens       an arena of n pages is opened on the book b with these rule rows (document 02, A.9), and not refused; `Room` says when
 --     run         the replies to the calls of a history from that opening; `bookAfter` the book that it leaves
 --     next        the reply to one more call
---     told        the calls with their answers, as the model's definitions of entries, holds and a class's answers read them
+--     observed    the calls with their answers, as the model's definitions of entries, holds and a class's answers read them
 --     recounted   the same with what the arena gave at each call, as the definitions of a class's runs read them
 use Prim.Native.Nat.{ℕ, _≤_}
 use mathlib.Core.List.{List, [], _∷_, _++_}
@@ -47,8 +47,8 @@ answered [] rs = []
 answered (x ∷ xs) [] = []
 answered (x ∷ xs) (r ∷ rs) = record { call = x; answer = r .answer; run = none } ∷ answered xs rs
 
-abbrev pub told : ℕ → List ℕ → List ℕ → List Call → List Event
-told n rows b xs = answered xs (run n rows b xs)
+abbrev pub observed : ℕ → List ℕ → List ℕ → List Call → List Event
+observed n rows b xs = answered xs (run n rows b xs)
 
 -- it is "worked from the opening over the arguments of all calls up to this one" (`events` sees no book)
 abbrev pub withRuns : List Event → List Event → List Event

@@ -73,8 +73,8 @@ next s xs x = call (bookAfter s xs) x
 abbrev pub replies : Start → List Call → List Reply
 replies s xs = Opening.run (pages s) (ruleRows s) (lent s) (did s) ++ since s xs
 
-abbrev pub told : Start → List Call → List Event
-told s xs = answered (calls s xs) (replies s xs)
+abbrev pub observed : Start → List Call → List Event
+observed s xs = answered (calls s xs) (replies s xs)
 
 -- an opening that returned 0, or a trace that returned 0 or 16, left the book b′
 pub data Begins : Start → List ℕ → Type 0 where

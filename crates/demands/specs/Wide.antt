@@ -24,7 +24,7 @@ use Rattle.trace.specs.Trace.{sayOf, back}
 use Rattle.vigbuso.specs.Direct.{openOn}
 use Rattle.demands.specs.Call.{call}
 use Rattle.demands.specs.Run.{Opens}
-use Rattle.demands.specs.Start.{Start, pages, Starts, bookAfter, told}
+use Rattle.demands.specs.Start.{Start, pages, Starts, bookAfter, observed}
 use Rattle.demands.specs.Returns.{Plain}
 
 -- "kind in the top two, a block's granule in the low 62, a group's count in the 12 below the kind and its page in the low 50"
@@ -44,11 +44,11 @@ pub record Wide : Type 0 where
   pub byte : (c q i : ℕ) → q + shapeOf c .pages ≤ 1048576 → i < shapeOf c .capacity
       → granuleOf (wordOf (shapeOf c) q i) * granuleBytes ≡ q * pageBytes + (shapeOf c .header + i * shapeOf c .block) * granuleBytes
   -- after every history a word whose granule is beyond the arena is out in no class, and its release is refused as 10
-  pub notThere : (s : Start) → Starts s → (xs : List Call) (c w : ℕ) → pages s * pageGranules ≤ granuleOf w → OutIn (told s xs) c w → ⊥
+  pub notThere : (s : Start) → Starts s → (xs : List Call) (c w : ℕ) → pages s * pageGranules ≤ granuleOf w → OutIn (observed s xs) c w → ⊥
   pub beyond : (s : Start) → Starts s → (xs : List Call) (c : ℕ) (x : Call) (h w : ℕ) → h ≤ hostMax → names x ≡ some (record { class = c; request = Calls.giveBack h (w ∷ []) })
       → ofKind (shapeOf c .kind) w ≡ true → pages s * pageGranules ≤ granuleOf w → call (bookAfter s xs) x .answer ≡ Calls.refused 10
   -- a group whose page is beyond it is refused as 11, if no number before applies
-  pub beyondChunk : (s : Start) → Starts s → (xs : List Call) (c h : ℕ) (ws gs fs : List ℕ) → c < 64 → Plain c h ws gs fs → AllOut (told s xs) c ws
+  pub beyondChunk : (s : Start) → Starts s → (xs : List Call) (c h : ℕ) (ws gs fs : List ℕ) → c < 64 → Plain c h ws gs fs → AllOut (observed s xs) c ws
       → (g : ℕ) → elem g gs ≡ true → pages s ≤ pageOf g → call (bookAfter s xs) (Calls.releaseBinChunks c h ws gs fs) .answer ≡ Calls.refused 11
   -- "The trace's own words in A.7 keep 32 bits .., and a place from 2 to the 30th on can't be named in it."
   pub unnamed : (w p : ℕ) → sayOf w ≡ back p → p < 2 ^ 30

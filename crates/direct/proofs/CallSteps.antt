@@ -20,7 +20,7 @@ use Rattle.classes.specs.Shape.{classCount}
 use Rattle.rules.specs.declared.Limits.{Limits}
 use Rattle.rules.specs.Rules.{rulesOf}
 use Rattle.fields.proofs.Laws.{length-put}
-use Rattle.direct.specs.way.Asks.{RowIn}
+use Rattle.direct.specs.way.Pre.{RowIn}
 use Rattle.model.specs.Heap.{badRun, badGrowth, direct}
 use Rattle.model.specs.Arena as Model
 use Rattle.runs.specs.declared.Arena.{Arena}
@@ -30,15 +30,15 @@ use Rattle.direct.specs.declared.Grow.{Grow}
 use Rattle.arena.specs.Load.{statusOf, loadArena}
 use Rattle.arena.specs.Owners.{ownerCode}
 use Rattle.runs.specs.way.Record.{recordOf}
-use Rattle.arena.specs.Fair.{recordFair, holesEndFair, giveFair, growGives, growFair}
+use Rattle.arena.specs.Valid.{recordValid, holesEndValid, giveValid, growGives, growValid}
 use Rattle.arena.specs.Open.{cleared, headWords, limited, ruled}
 use Rattle.arena.specs.Calls.{commitFor, commitCall, given, heldDirect, releaseCall, growCall, containsCall}
 use Rattle.runs.specs.way.Act.{endNone, endRun, endGiven, settle, fromFrontier, growWith, growActs, clamped}
-use Rattle.runs.specs.way.Asks.{GiveIn, BookIn, EndsIn}
+use Rattle.runs.specs.way.Pre.{GiveIn, BookIn, EndsIn}
 use Rattle.runs.specs.Answer.{answerOf, Answers}
 use Rattle.direct.specs.Answer.{grownAs, Releases}
-use Rattle.direct.specs.way.Acts.{growCommit, Grew, Grows, fairGrow, heldRelease}
-use Rattle.runs.proofs.Acts.{fair-record, grow-acts}
+use Rattle.direct.specs.way.Acts.{growCommit, Grew, Grows, validGrow, heldRelease}
+use Rattle.runs.proofs.Acts.{valid-record, grow-acts}
 use Rattle.runs.proofs.PlanLaws.{clamp-commit, clamp-growth, clamp-grow, clamped-le}
 
 -- ---- numbers
@@ -174,9 +174,9 @@ module _ (n : ℕ) (b : List ℕ) (q m : ℕ) (t : Bool) (k : BookIn b n) (e : t
 
 -- ---- release
 module _ (n : ℕ) (b : List ℕ) (q m : ℕ) where
-  module _ (t : Bool) (e : t ≡ giveFair n b m) where
+  module _ (t : Bool) (e : t ≡ giveValid n b m) where
     pub give-in : BookIn b n → q + m ≤ n → t ≡ true → GiveIn b n q m
-    give-in k l v = record { long = k .long; small = k .small; inside = l; fair = sym e ∙ v }
+    give-in k l v = record { long = k .long; small = k .small; inside = l; valid = sym e ∙ v }
 
     pub released : (x : List ℕ) → t ≡ true → x ≡ given b q m → Releases 0 x (heldRelease n b q m)
     unfolding heldRelease
@@ -212,30 +212,30 @@ module _ (n : ℕ) (b : List ℕ) (h e m : ℕ) where
       rw (← f, ← g) (record { answer = s ∙ ap growCommit (k .answer) ∙ grow-as (o .code) (o .run) (o .fresh); book = k .book })
 
   -- number 13's test
-  pub growth-told : (t : Bool) → t ≡ growFair n b h e m → t ≡ true → growFair n b h e m ≡ true
+  pub growth-told : (t : Bool) → t ≡ growValid n b h e m → t ≡ true → growValid n b h e m ≡ true
   growth-told t f v = sym f ∙ v
 
-  pub growth-record : growFair n b h e m ≡ true → recordFair n b ≡ true
-  unfolding growFair
-  growth-record f = and-left (recordFair n b) _ f
+  pub growth-record : growValid n b h e m ≡ true → recordValid n b ≡ true
+  unfolding growValid
+  growth-record f = and-left (recordValid n b) _ f
 
-  growth-holes : growFair n b h e m ≡ true → commitGranted h ≡ false → get b (arena frontier) ≡ e → e + m ≤ n → holesEndFair b ≡ true
-  unfolding growFair growGives loadArena
-  growth-holes f g z l = rw (g, eq-eqb (get b (arena frontier)) e z, le-leb (e + m) n l) at (and-right (recordFair n b) _ f)
+  growth-holes : growValid n b h e m ≡ true → commitGranted h ≡ false → get b (arena frontier) ≡ e → e + m ≤ n → holesEndValid b ≡ true
+  unfolding growValid growGives loadArena
+  growth-holes f g z l = rw (g, eq-eqb (get b (arena frontier)) e z, le-leb (e + m) n l) at (and-right (recordValid n b) _ f)
 
-  pub growth-ends : (a : Arena) → growFair n b h e m ≡ true → a ≡ recordOf b → commitGranted h ≡ false → a .frontier ≡ e → a .frontier + m ≤ n → EndsIn b a
-  unfolding holesEndFair
+  pub growth-ends : (a : Arena) → growValid n b h e m ≡ true → a ≡ recordOf b → commitGranted h ≡ false → a .frontier ≡ e → a .frontier + m ≤ n → EndsIn b a
+  unfolding holesEndValid
   growth-ends a f i g z l =
       let y : a .frontier ≡ get b (arena frontier) = ap (λ x. x .frontier) i in
       subst (λ x. EndsIn b x) (sym i) (growth-holes f g (sym y ∙ z) (omega arith))
 
-  pub grows-fair : (t : Bool) (r : Grow) (x : List ℕ) → t ≡ growFair n b h e m → t ≡ true → Grows r x (growActs n b h e m (ownerCode direct)) → Grows r x (fairGrow n b h e m)
-  unfolding fairGrow
-  grows-fair t r x f v k = rw (← f, v) k
+  pub grows-valid : (t : Bool) (r : Grow) (x : List ℕ) → t ≡ growValid n b h e m → t ≡ true → Grows r x (growActs n b h e m (ownerCode direct)) → Grows r x (validGrow n b h e m)
+  unfolding validGrow
+  grows-valid t r x f v k = rw (← f, v) k
 
-  pub grows-unfair : (t : Bool) → t ≡ growFair n b h e m → t ≡ false → Grows (Grow.Refused 13) b (fairGrow n b h e m)
-  unfolding fairGrow
-  grows-unfair t f v = rw (← f, v) (record { answer = refl; book = refl })
+  pub grows-invalid : (t : Bool) → t ≡ growValid n b h e m → t ≡ false → Grows (Grow.Refused 13) b (validGrow n b h e m)
+  unfolding validGrow
+  grows-invalid t f v = rw (← f, v) (record { answer = refl; book = refl })
 
   grow-code : growActs n b h e m (ownerCode direct) .code ≡ 0
   unfolding growActs growWith fromFrontier endNone settle endRun endGiven
@@ -256,13 +256,13 @@ module _ (n : ℕ) (b : List ℕ) (h q old new : ℕ) where
   grow-not t u e v f w = rw (← e, v, ← f, w) (record { answer = refl; book = refl })
 
   pub grow-held : (t u : Bool) (m : ℕ) (r : Grow) (x : List ℕ) → BookIn b n → t ≡ badGrowth old new → t ≡ false → u ≡ heldDirect n b q old → u ≡ true → m ≡ clamped (new - old)
-      → Grows r x (fairGrow n b h (q + old) m) → Grew r x (growCall n b h q old new)
-  unfolding growCall fairGrow
+      → Grows r x (validGrow n b h (q + old) m) → Grew r x (growCall n b h q old new)
+  unfolding growCall validGrow
   grow-held t u m r x k e v f w g y =
       let m′ = new - old in
-      by-cases (growFair n b h (q + old) m′)
+      by-cases (growValid n b h (q + old) m′)
       (λ z. let i = rw (g, clamp-growth n b (k .small) h (q + old) m′, z, clamp-grow n b (k .small) h (q + old) (ownerCode direct) m′) at y in
-      let j = grow-acts n b (le-leb _ _ (k .long)) (fair-record n b (growth-record n b h (q + old) m′ z)) h m′ (q + old) (growth-holes n b h (q + old) m′ z) in
+      let j = grow-acts n b (le-leb _ _ (k .long)) (valid-record n b (growth-record n b h (q + old) m′ z)) h m′ (q + old) (growth-holes n b h (q + old) m′ z) in
       rw (← e, v, ← f, w, z) (record { answer = i .answer ∙ rw (grow-code n b h (q + old) m′, j .yes); book = i .book ∙ sym (j .book) }))
       (λ z. let i = rw (g, clamp-growth n b (k .small) h (q + old) m′, z) at y in
       rw (← e, v, ← f, w, z) (record { answer = i .answer; book = i .book }))

@@ -19,61 +19,61 @@ use Rattle.fields.specs.Field.{arena, class, held, emptyCount, coldCount, get}
 use Rattle.model.specs.declared.Figures.{Figures}
 use Rattle.model.specs.Heap.{parkedPages}
 use Rattle.runs.specs.declared.Arena.{Arena}
-use Rattle.direct.specs.declared.Report.the-variants.{Told, Refused}
+use Rattle.direct.specs.declared.Report.the-variants.{Reported, Refused}
 use Rattle.arena.specs.Load.{loadStore, loadArena}
-use Rattle.arena.specs.Fair.{recordFair, countsFair, allCountsFair, reportFair}
+use Rattle.arena.specs.Valid.{recordValid, countsValid, allCountsValid, reportValid}
 use Rattle.arena.specs.Calls.{parkedRuns, figures}
 use Rattle.runs.specs.way.Record.{recordOf}
-use Rattle.runs.proofs.Acts.{fair-record}
-use Rattle.runs.specs.way.Asks.{BookIn}
+use Rattle.runs.proofs.Acts.{valid-record}
+use Rattle.runs.specs.way.Pre.{BookIn}
 use Rattle.direct.specs.Answer.{reportOf}
-use Rattle.direct.specs.way.Asks.{CountsIn, parkedMax, Parks}
+use Rattle.direct.specs.way.Pre.{CountsIn, parkedMax, Parks}
 
 -- ---- number 13, class by class
 module _ (b : List ℕ) (c x : ℕ) (e : x ≡ get b (class emptyCount c)) where
-  pub many-empty : maxParked < x → false ≡ countsFair b c
+  pub many-empty : maxParked < x → false ≡ countsValid b c
   many-empty h = rw (← e, lt-leb x maxParked h)
 
-  pub counts-told : (y : ℕ) → x ≤ maxParked → y ≡ get b (class coldCount c) → leb y maxParked ≡ countsFair b c
+  pub counts-told : (y : ℕ) → x ≤ maxParked → y ≡ get b (class coldCount c) → leb y maxParked ≡ countsValid b c
   counts-told y h k = rw (← e, ← k, le-leb x maxParked h)
 
 module _ (b : List ℕ) where
   -- the classes below k decide it
   pub record CountsInv (k : ℕ) : Type 0 where
     pub within : k ≤ classCount
-    pub rest : every (countsFair b) (below k) ≡ allCountsFair b
+    pub rest : every (countsValid b) (below k) ≡ allCountsValid b
 
   pub counts-start : CountsInv classCount
-  unfolding allCountsFair
+  unfolding allCountsValid
   counts-start = record { within = omega arith; rest = refl }
 
-  counts-last : (k : ℕ) (r : Bool) → (k ≡ 0 → ⊥) → r ≡ countsFair b (k - 1) → every (countsFair b) (below k) ≡ (r && every (countsFair b) (below (k - 1)))
+  counts-last : (k : ℕ) (r : Bool) → (k ≡ 0 → ⊥) → r ≡ countsValid b (k - 1) → every (countsValid b) (below k) ≡ (r && every (countsValid b) (below (k - 1)))
   counts-last k r h e = rw (below-last k (omega (arith, h)), e)
 
-  pub counts-again : (k : ℕ) (r : Bool) → (k ≡ 0 → ⊥) → CountsInv k → r ≡ countsFair b (k - 1) → not r ≡ false → CountsInv (k - 1)
-  counts-again k r h i e t = record { within = omega (arith, i .within); rest = sym (ap (λ z. z && every (countsFair b) (below (k - 1))) (not-false r t)) ∙ sym (counts-last k r h e) ∙ i .rest }
+  pub counts-again : (k : ℕ) (r : Bool) → (k ≡ 0 → ⊥) → CountsInv k → r ≡ countsValid b (k - 1) → not r ≡ false → CountsInv (k - 1)
+  counts-again k r h i e t = record { within = omega (arith, i .within); rest = sym (ap (λ z. z && every (countsValid b) (below (k - 1))) (not-false r t)) ∙ sym (counts-last k r h e) ∙ i .rest }
 
-  pub counts-fail : (k : ℕ) (r : Bool) → (k ≡ 0 → ⊥) → CountsInv k → r ≡ countsFair b (k - 1) → not r ≡ true → false ≡ allCountsFair b
-  counts-fail k r h i e f = sym (ap (λ z. z && every (countsFair b) (below (k - 1))) (not-true r f)) ∙ sym (counts-last k r h e) ∙ i .rest
+  pub counts-fail : (k : ℕ) (r : Bool) → (k ≡ 0 → ⊥) → CountsInv k → r ≡ countsValid b (k - 1) → not r ≡ true → false ≡ allCountsValid b
+  counts-fail k r h i e f = sym (ap (λ z. z && every (countsValid b) (below (k - 1))) (not-true r f)) ∙ sym (counts-last k r h e) ∙ i .rest
 
-  pub counts-pass : (k : ℕ) → k ≡ 0 → CountsInv k → true ≡ allCountsFair b
+  pub counts-pass : (k : ℕ) → k ≡ 0 → CountsInv k → true ≡ allCountsValid b
   counts-pass k h i = rw h at (i .rest)
 
-  pub counts-at : (c : ℕ) → allCountsFair b ≡ true → c < classCount → countsFair b c ≡ true
-  unfolding allCountsFair
-  counts-at c t h = every-at (countsFair b) classCount c t h
+  pub counts-at : (c : ℕ) → allCountsValid b ≡ true → c < classCount → countsValid b c ≡ true
+  unfolding allCountsValid
+  counts-at c t h = every-at (countsValid b) classCount c t h
 
-module _ (n : ℕ) (b : List ℕ) (t : Bool) (e : t ≡ recordFair n b) where
-  pub record-passes : (u : Bool) → t ≡ true → u ≡ allCountsFair b → u ≡ reportFair n b
-  unfolding reportFair
+module _ (n : ℕ) (b : List ℕ) (t : Bool) (e : t ≡ recordValid n b) where
+  pub record-passes : (u : Bool) → t ≡ true → u ≡ allCountsValid b → u ≡ reportValid n b
+  unfolding reportValid
   record-passes u v f = rw (← e, v) f
 
-  pub record-fails : t ≡ false → false ≡ reportFair n b
-  unfolding reportFair
+  pub record-fails : t ≡ false → false ≡ reportValid n b
+  unfolding reportValid
   record-fails v = rw (← e, v)
 
 -- ---- the parked runs of a class
-module _ (b : List ℕ) (c x y : ℕ) (t : countsFair b c ≡ true) (e : x ≡ get b (class emptyCount c)) (k : y ≡ get b (class coldCount c)) where
+module _ (b : List ℕ) (c x y : ℕ) (t : countsValid b c ≡ true) (e : x ≡ get b (class emptyCount c)) (k : y ≡ get b (class coldCount c)) where
   runs-few : x + y ≤ maxParked + maxParked
   runs-few =
       omega (
@@ -121,26 +121,26 @@ parked-end b sum c v h = let e : c ≡ classCount = omega (arith, v .at) in v .i
 
 -- ---- the figures
 module _ (n : ℕ) (b : List ℕ) where
-  pub counts-in : BookIn b n → reportFair n b ≡ true → CountsIn b
-  unfolding reportFair
-  counts-in k t = record { long = omega (arith, k .long); fair = and-right (recordFair n b) (allCountsFair b) t }
+  pub counts-in : BookIn b n → reportValid n b ≡ true → CountsIn b
+  unfolding reportValid
+  counts-in k t = record { long = omega (arith, k .long); valid = and-right (recordValid n b) (allCountsValid b) t }
 
-  pub figures-below : (a : Arena) → reportFair n b ≡ true → a ≡ recordOf b → a .frontier ≤ n
-  unfolding reportFair
-  figures-below a t e = rw e (fair-record n b (and-left (recordFair n b) (allCountsFair b) t) .frontier)
+  pub figures-below : (a : Arena) → reportValid n b ≡ true → a ≡ recordOf b → a .frontier ≤ n
+  unfolding reportValid
+  figures-below a t e = rw e (valid-record n b (and-left (recordValid n b) (allCountsValid b) t) .frontier)
 
   pub figures-are : (a : Arena) (d p : ℕ) → a ≡ recordOf b → d ≡ get b (arena held) → p ≡ parkedPages (parkedRuns b)
       → record { commits = a .commits; reuses = a .reuses; abandoned = a .abandoned; held = d; idle = a .total + (n - a .frontier) + p; overlap = p } ≡ figures n b
   unfolding loadArena loadStore
   figures-are a d p e f g = rw (e, f, g)
 
-  pub told : (t : Bool) (r : Figures) → t ≡ reportFair n b → t ≡ true → r ≡ figures n b → Told r ≡ reportOf n b
+  pub told : (t : Bool) (r : Figures) → t ≡ reportValid n b → t ≡ true → r ≡ figures n b → Reported r ≡ reportOf n b
   unfolding reportOf
   told t r e v f = rw (← e, v, f)
 
-  pub untold : (t : Bool) → t ≡ reportFair n b → t ≡ false → Refused 13 ≡ reportOf n b
+  pub unreported : (t : Bool) → t ≡ reportValid n b → t ≡ false → Refused 13 ≡ reportOf n b
   unfolding reportOf
-  untold t e v = rw (← e, v)
+  unreported t e v = rw (← e, v)
 
-  pub fair-reported : (t : Bool) → t ≡ reportFair n b → t ≡ true → reportFair n b ≡ true
-  fair-reported t e v = sym e ∙ v
+  pub valid-reported : (t : Bool) → t ≡ reportValid n b → t ≡ true → reportValid n b ≡ true
+  valid-reported t e v = sym e ∙ v

@@ -8,8 +8,8 @@ use mathlib.Core.Path.{_≡_}
 use Rattle.direct.specs.declared.Grow.{Grow}
 use Rattle.direct.specs.declared.Grow.the-variants.{Yes, No}
 use Rattle.direct.specs.declared.Report.{Report}
-use Rattle.direct.specs.declared.Report.the-variants.{Told}
-use Rattle.arena.specs.Fair.{reportFair}
+use Rattle.direct.specs.declared.Report.the-variants.{Reported}
+use Rattle.arena.specs.Valid.{reportValid}
 use Rattle.arena.specs.Calls.{Done, figures}
 
 -- a growth: a refusal's number, yes or no
@@ -30,4 +30,4 @@ pub record Releases (r : ℕ) (b : List ℕ) (o : Done) : Type 0 where
 
 -- a report
 unfoldable pub reportOf : ℕ → List ℕ → Report
-reportOf n b = cond (reportFair n b) (Told (figures n b)) (Report.Refused 13)
+reportOf n b = cond (reportValid n b) (Reported (figures n b)) (Report.Refused 13)

@@ -14,13 +14,13 @@ ghost use Prim.Native.Nat.{_+_, _-_, _≤_, _<_};
 ghost use Rattle.words.specs.Limits.{maxPages};
 ghost use Rattle.model.specs.Heap.{badRun, badGrowth, direct};
 ghost use Rattle.arena.specs.Owners.{ownerCode};
-ghost use Rattle.arena.specs.Fair.{growFair};
+ghost use Rattle.arena.specs.Valid.{growValid};
 ghost use Rattle.arena.specs.Calls.{commitCall, releaseCall, growCall, containsCall};
 ghost use Rattle.runs.specs.way.Act.{clamped, growActs};
-ghost use Rattle.runs.specs.way.Asks.{BookIn};
+ghost use Rattle.runs.specs.way.Pre.{BookIn};
 ghost use Rattle.runs.specs.Answer.{Answers};
 ghost use Rattle.direct.specs.Answer.{Releases};
-ghost use Rattle.direct.specs.way.Acts.{growCommit, Grows, Grew, fairGrow, heldRelease};
+ghost use Rattle.direct.specs.way.Acts.{growCommit, Grows, Grew, validGrow, heldRelease};
 
 fn bad_run(pages: u64) -> bool
     ensures { λ r. ⌜ r ≡ badRun pages ⌝ }
@@ -56,7 +56,7 @@ fn release_held(meta: &mut [u32], size: u32, first: u32, pages: u32) -> u32
     requires { ⌜ BookIn (now meta) size × (first + pages ≤ size) ⌝ }
     ensures { λ r. ⌜ Releases r (now (meta .exit)) (heldRelease size (now (meta .entry)) first pages) ⌝ }
 {
-    if give::give_fair(meta, size, pages) {
+    if give::give_valid(meta, size, pages) {
         give::give(meta, size, first, pages);
         return 0;
     }
@@ -89,7 +89,7 @@ fn grow_of(c: Commit) -> Grow
 
 // A run that the direct calls hold and that ends at page `end`, on words in their ranges.
 fn grow_held(meta: &mut [u32], size: u32, host: u32, end: u32, pages: u32) -> Grow
-    requires { ⌜ BookIn (now meta) size × (growFair size (now meta) host end pages ≡ true) × (pages ≤ maxPages + 1) ⌝ }
+    requires { ⌜ BookIn (now meta) size × (growValid size (now meta) host end pages ≡ true) × (pages ≤ maxPages + 1) ⌝ }
     ensures { λ r. ⌜ Grows r (now (meta .exit)) (growActs size (now (meta .entry)) host end pages (ownerCode direct)) ⌝ }
 {
     let a = load::load_record(meta);
@@ -105,9 +105,9 @@ fn grow_held(meta: &mut [u32], size: u32, host: u32, end: u32, pages: u32) -> Gr
 
 fn grow_tested(meta: &mut [u32], size: u32, host: u32, end: u32, pages: u32) -> Grow
     requires { ⌜ BookIn (now meta) size × (end ≤ maxPages) × (pages ≤ maxPages + 1) ⌝ }
-    ensures { λ r. ⌜ Grows r (now (meta .exit)) (fairGrow size (now (meta .entry)) host end pages) ⌝ }
+    ensures { λ r. ⌜ Grows r (now (meta .exit)) (validGrow size (now (meta .entry)) host end pages) ⌝ }
 {
-    if growth::grow_fair(meta, size, host, end, pages) {
+    if growth::grow_valid(meta, size, host, end, pages) {
         return grow_held(meta, size, host, end, pages);
     }
     Grow::Refused(13)

@@ -9,16 +9,16 @@ ghost use mathlib.Core.Bool.{true};
 ghost use Prim.Native.Nat.{_≤_};
 ghost use lib.ListN.{length};
 ghost use Rattle.model.specs.Heap.{parkedPages};
-ghost use Rattle.arena.specs.Fair.{countsFair, allCountsFair, reportFair};
+ghost use Rattle.arena.specs.Valid.{countsValid, allCountsValid, reportValid};
 ghost use Rattle.arena.specs.Calls.{parkedRuns, figures};
-ghost use Rattle.runs.specs.way.Asks.{BookIn};
+ghost use Rattle.runs.specs.way.Pre.{BookIn};
 ghost use Rattle.direct.specs.Answer.{reportOf};
-ghost use Rattle.direct.specs.way.Asks.{RowIn, CountsIn, Parks};
+ghost use Rattle.direct.specs.way.Pre.{RowIn, CountsIn, Parks};
 
 // A class's counts of parked runs are in their range.
-fn counts_fair(meta: &[u32], c: u32) -> bool
+fn counts_valid(meta: &[u32], c: u32) -> bool
     requires { ⌜ RowIn (now meta) c ⌝ }
-    ensures { λ r. ⌜ r ≡ countsFair (now (meta .entry)) c ⌝ }
+    ensures { λ r. ⌜ r ≡ countsValid (now (meta .entry)) c ⌝ }
 {
     if fields::class::empty_count(meta, c) > MAX_PARKED {
         return false;
@@ -26,33 +26,33 @@ fn counts_fair(meta: &[u32], c: u32) -> bool
     fields::class::cold_count(meta, c) <= MAX_PARKED
 }
 
-fn all_counts_fair(meta: &[u32]) -> bool
+fn all_counts_valid(meta: &[u32]) -> bool
     requires { ⌜ 40000 ≤ length (now meta) ⌝ }
-    ensures { λ r. ⌜ r ≡ allCountsFair (now (meta .entry)) ⌝ }
+    ensures { λ r. ⌜ r ≡ allCountsValid (now (meta .entry)) ⌝ }
 {
     let mut c = CLASS_COUNT;
     while c != 0 {
         c -= 1;
-        if !counts_fair(meta, c) {
+        if !counts_valid(meta, c) {
             return false;
         }
     }
     true
 }
 
-fn report_fair(meta: &[u32], size: u32) -> bool
+fn report_valid(meta: &[u32], size: u32) -> bool
     requires { ⌜ BookIn (now meta) size ⌝ }
-    ensures { λ r. ⌜ r ≡ reportFair size (now (meta .entry)) ⌝ }
+    ensures { λ r. ⌜ r ≡ reportValid size (now (meta .entry)) ⌝ }
 {
-    if load::record_fair(meta, size) {
-        return all_counts_fair(meta);
+    if load::record_valid(meta, size) {
+        return all_counts_valid(meta);
     }
     false
 }
 
 // The pages of a class's parked runs: at most 256 empty and 256 cold ones of at most 8 pages.
 fn parked_of(meta: &[u32], c: u32) -> u32
-    requires { ⌜ RowIn (now meta) c × (countsFair (now meta) c ≡ true) ⌝ }
+    requires { ⌜ RowIn (now meta) c × (countsValid (now meta) c ≡ true) ⌝ }
     ensures { λ r. ⌜ Parks (now (meta .entry)) c r ⌝ }
 {
     let runs = fields::class::empty_count(meta, c) + fields::class::cold_count(meta, c);
@@ -77,7 +77,7 @@ fn parked_pages(meta: &[u32]) -> u32
 }
 
 fn figures(meta: &[u32], size: u32) -> Figures
-    requires { ⌜ BookIn (now meta) size × (reportFair size (now meta) ≡ true) ⌝ }
+    requires { ⌜ BookIn (now meta) size × (reportValid size (now meta) ≡ true) ⌝ }
     ensures { λ r. ⌜ r ≡ figures size (now (meta .entry)) ⌝ }
 {
     let a = load::load_record(meta);
@@ -96,8 +96,8 @@ pub fn report(meta: &[u32], size: u32) -> Report
     requires { ⌜ BookIn (now meta) size ⌝ }
     ensures { λ r. ⌜ r ≡ reportOf size (now (meta .entry)) ⌝ }
 {
-    if report_fair(meta, size) {
-        return Report::Told(figures(meta, size));
+    if report_valid(meta, size) {
+        return Report::Reported(figures(meta, size));
     }
     Report::Refused(13)
 }

@@ -14,5 +14,5 @@ pub enum Grow {
 
 pub enum Report {
     Refused(u32),
-    Told(Figures),
+    Reported(Figures),
 }

@@ -5,7 +5,7 @@ ghost use lib.ListN.{length};
 ghost use Rattle.classes.specs.Shape.{classCount};
 ghost use Rattle.rules.specs.Rules.{rulesOf};
 ghost use Rattle.arena.specs.Open.{cleared, headWords, limited, ruled, opened};
-ghost use Rattle.direct.specs.way.Asks.{RowIn};
+ghost use Rattle.direct.specs.way.Pre.{RowIn};
 use classes::CLASS_COUNT;
 use rules::Limits;
 

@@ -17,7 +17,7 @@ use lib.ListN.{length, getD, set, length-set}
 use lib.Seq.{getD-set-same, getD-set-other, set-getD, set-set, set-comm, set-out}
 use borrow.Author.Tests.{leb-true, ltb-true, ltb-false, eqb-false, lt-ltb}
 use Rattle.facts.proofs.Bools.{by-cases, and-left, and-right, and-false}
-use Rattle.fields.specs.Field.{Field, arena, mark, class, hole, page, out, slot, ArenaField, ClassField, HoleField, PageField, arenaOff, classOff, holeOff, pageOff, pair, word, Part, bits, part, read, place, get, put, same, ok, valid, words, room}
+use Rattle.fields.specs.Field.{Field, arena, mark, class, hole, page, out, slot, ArenaField, ClassField, HoleField, PageField, arenaOff, classOff, holeOff, pageOff, pair, word, Part, bits, part, read, place, get, put, same, ok, inBook, words, room}
 use Rattle.fields.proofs.Parts.{Split, below, above, holdable, read-place, read-small, place-read, place-place, read-place-other, place-comm}
 
 -- ---- the offsets
@@ -198,7 +198,7 @@ get-room b (out p i) = lt-ltb _ _ (read-small _ 1 (getD b (word (out p i)) 0))
 get-room b (slot p i) = lt-ltb _ _ (read-small _ 16 (getD b (word (slot p i)) 0))
 
 -- ---- a field of a book of n pages lies in it
-pub within : (n : ℕ) (f : Field) → valid n f ≡ true → word f < words n
+pub within : (n : ℕ) (f : Field) → inBook n f ≡ true → word f < words n
 within n (arena k) e = omega (arith, arenaOff-lt k)
 within n (mark p j) e =
     omega (arith, ltb-true j 128 (and-left _ (ltb p n) e), ltb-true p n (and-right (ltb j 128) _ e))
@@ -215,7 +215,7 @@ pub length-put : (b : List ℕ) (f : Field) (v : ℕ) → length (put b f v) ≡
 unfolding put
 length-put b f v = simp length-set
 
-pub get-put-same : (n : ℕ) (b : List ℕ) (f : Field) (v : ℕ) → leb (words n) (length b) ≡ true → valid n f ≡ true → room f v ≡ true → get (put b f v) f ≡ v
+pub get-put-same : (n : ℕ) (b : List ℕ) (f : Field) (v : ℕ) → leb (words n) (length b) ≡ true → inBook n f ≡ true → room f v ≡ true → get (put b f v) f ≡ v
 unfolding get put
 get-put-same n b f v hb hf hv =
     ap (read (part f)) (getD-set-same b (word f) _ 0 (omega (arith, leb-true, within n f hf)))
@@ -225,7 +225,7 @@ pub put-get : (b : List ℕ) (f : Field) → put b f (get b f) ≡ b
 unfolding get put
 put-get b f = ap (set b (word f)) (place-read (part f) (getD b (word f) 0)) ∙ set-getD b (word f) 0
 
-pub put-put-same : (n : ℕ) (b : List ℕ) (f : Field) (u v : ℕ) → leb (words n) (length b) ≡ true → valid n f ≡ true → put (put b f u) f v ≡ put b f v
+pub put-put-same : (n : ℕ) (b : List ℕ) (f : Field) (u v : ℕ) → leb (words n) (length b) ≡ true → inBook n f ≡ true → put (put b f u) f v ≡ put b f v
 unfolding put
 put-put-same n b f u v hb hf =
     set-set b (word f) _ _

@@ -5,4 +5,4 @@ pub mod Changes
 pub mod Outcome
 pub mod Sound
 pub mod Clear
-pub mod Mark
+pub mod OutBits

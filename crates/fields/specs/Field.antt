@@ -179,14 +179,14 @@ ok (page k p) = true
 ok (out p i) = ltb i 4096
 ok (slot p i) = ltb i 4096
 
-abbrev pub valid : ℕ → Field → Bool
-valid n (arena k) = true
-valid n (mark p j) = ltb j 128 && ltb p n
-valid n (class k c) = ltb c 76
-valid n (hole k i) = ltb i holeSlots
-valid n (page k p) = ltb p n
-valid n (out p i) = ltb i 4096 && ltb p n
-valid n (slot p i) = ltb i 4096 && ltb p n
+abbrev pub inBook : ℕ → Field → Bool
+inBook n (arena k) = true
+inBook n (mark p j) = ltb j 128 && ltb p n
+inBook n (class k c) = ltb c 76
+inBook n (hole k i) = ltb i holeSlots
+inBook n (page k p) = ltb p n
+inBook n (out p i) = ltb i 4096 && ltb p n
+inBook n (slot p i) = ltb i 4096 && ltb p n
 
 abbrev pub room : Field → ℕ → Bool
 room (arena k) v = true

@@ -3,7 +3,7 @@ ghost use mathlib.Core.Path.{_≡_};
 ghost use Prim.Native.Nat.{_+_, _*_, _≤_, _<_};
 ghost use Rattle.fields.specs.Clear.{clearOut};
 ghost use Rattle.fields.specs.Field.{mark, out, word, Has, get, put};
-ghost use Rattle.fields.specs.way.Mark.{markOut, outsAt, flipWord};
+ghost use Rattle.fields.specs.way.OutBits.{setOutRun, outsAt, flipWord};
 use crate::bits::place_bits;
 use crate::bits::read_bits;
 use crate::bits::set_ones;
@@ -56,7 +56,7 @@ pub fn clear_word(meta: &mut [u32], p: u32, j: u32)
 }
 
 // Block i is out.
-pub fn mark(meta: &mut [u32], p: u32, i: u32)
+pub fn set_out(meta: &mut [u32], p: u32, i: u32)
     requires { ⌜ Has (now meta) (out p i) ⌝ }
     ensures { λ _. ⌜ now (meta .exit) ≡ put (now (meta .entry)) (out p i) 1 ⌝ }
 {
@@ -65,7 +65,7 @@ pub fn mark(meta: &mut [u32], p: u32, i: u32)
 }
 
 // Block i, which is out, no longer is.
-pub fn unmark(meta: &mut [u32], p: u32, i: u32)
+pub fn clear_out(meta: &mut [u32], p: u32, i: u32)
     requires { ⌜ Has (now meta) (out p i) ⌝ }
     requires { ⌜ get (now meta) (out p i) ≡ 1 ⌝ }
     ensures { λ _. ⌜ now (meta .exit) ≡ put (now (meta .entry)) (out p i) 0 ⌝ }
@@ -75,10 +75,10 @@ pub fn unmark(meta: &mut [u32], p: u32, i: u32)
 }
 
 // The n blocks from 32 j + s on, whose bits are in one word, are out.
-pub fn mark_run(meta: &mut [u32], p: u32, j: u32, s: u32, n: u32)
+pub fn set_in_word(meta: &mut [u32], p: u32, j: u32, s: u32, n: u32)
     requires { ⌜ Has (now meta) (out p (32 * j)) ⌝ }
     requires { ⌜ (s < 32) × (s + n ≤ 32) ⌝ }
-    ensures { λ _. ⌜ now (meta .exit) ≡ markOut (now (meta .entry)) p (32 * j + s) n ⌝ }
+    ensures { λ _. ⌜ now (meta .exit) ≡ setOutRun (now (meta .entry)) p (32 * j + s) n ⌝ }
 {
     let at = page_word(p, 16 + j as usize);
     meta[at] = set_ones(meta[at], s, n);

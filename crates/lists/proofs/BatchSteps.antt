@@ -13,13 +13,13 @@ use Rattle.facts.specs.Lists.{every}
 use Rattle.facts.proofs.Bools.{by-cases, and-left, and-right}
 use Rattle.classes.specs.declared.Shape.{Shape}
 use Rattle.fields.specs.Field.{out, put}
-use Rattle.fields.specs.way.Mark.{markOut}
+use Rattle.fields.specs.way.OutBits.{setOutRun}
 use Rattle.fields.proofs.Laws.{length-put, put-comm}
 use Rattle.model.specs.Page.{wordOf}
-use Rattle.pages.specs.Stack.{downs, marks, spliced, Gave}
-use Rattle.pages.specs.way.Asks.{NameAsks, FreshAsks}
-use Rattle.pages.proofs.Downs.{small, length-downs, downs-below}
-use Rattle.pages.proofs.Marks.{marks-append}
+use Rattle.pages.specs.Stack.{descending, setOuts, spliced, HandedOut}
+use Rattle.pages.specs.way.Pre.{NamePre, FreshPre}
+use Rattle.pages.proofs.Descending.{small, length-descending, descending-below}
+use Rattle.pages.proofs.SetOuts.{set-outs-append}
 use Rattle.pages.proofs.Spliced.{spliced-none, spliced-one, spliced-twice}
 
 -- ---- words
@@ -39,39 +39,39 @@ named-more sh q l₀ at j i w xs l l′ r p n long v e f =
     ∙ ap (λ z. spliced l₀ z (w ∷ ws)) from
     ∙ ap (λ z. spliced l₀ (at - (j + 1)) (z ∷ ws)) e
 
--- downs from its lowest on
-downs-last : (a k : ℕ) → downs a (suc k) ≡ downs (suc a) k ++ (a ∷ [])
-downs-last a zero = ap (λ z. z ∷ []) (add-zero a)
-downs-last a (suc k) =
+-- descending from its lowest on
+descending-last : (a k : ℕ) → descending a (suc k) ≡ descending (suc a) k ++ (a ∷ [])
+descending-last a zero = ap (λ z. z ∷ []) (add-zero a)
+descending-last a (suc k) =
     let e : a + suc k ≡ suc a + k = omega arith in
-    ap (λ z. z ∷ downs a (suc k)) e ∙ ap (λ z. (suc a + k) ∷ z) (downs-last a k)
+    ap (λ z. z ∷ descending a (suc k)) e ∙ ap (λ z. (suc a + k) ∷ z) (descending-last a k)
 
-rising-more : (a k : ℕ) → reverse (downs a (suc k)) ≡ a ∷ reverse (downs (suc a) k)
-rising-more a k = ap reverse (downs-last a k) ∙ reverse-append (downs (suc a) k) (a ∷ [])
+rising-more : (a k : ℕ) → reverse (descending a (suc k)) ≡ a ∷ reverse (descending (suc a) k)
+rising-more a k = ap reverse (descending-last a k) ∙ reverse-append (descending (suc a) k) (a ∷ [])
 
-length-rising : (a k : ℕ) → length (reverse (downs a k)) ≡ k
-length-rising a k = length-reverse (downs a k) ∙ length-downs a k
+length-rising : (a k : ℕ) → length (reverse (descending a k)) ≡ k
+length-rising a k = length-reverse (descending a k) ∙ length-descending a k
 
 module _ (sh : Shape) (q : ℕ) (l₀ : List ℕ) (at a k : ℕ) where
   pub record Naming (l : List ℕ) (j : ℕ) : Type 0 where
     pub within : j ≤ k
     pub long : length l ≡ length l₀
-    pub named : l ≡ spliced l₀ (at - j) (map (wordOf sh q) (downs a j))
+    pub named : l ≡ spliced l₀ (at - j) (map (wordOf sh q) (descending a j))
 
   pub naming-none : Naming l₀ 0
   naming-none = record { within = omega arith; long = refl; named = sym (spliced-none l₀ (at - 0)) }
 
-  pub naming-more : (l l′ : List ℕ) (j w : ℕ) → NameAsks sh q l₀ at a k → j < k → Naming l j → w ≡ wordOf sh q (a + j) → l′ ≡ set l (at - 1 - j) w → Naming l′ (j + 1)
+  pub naming-more : (l l′ : List ℕ) (j w : ℕ) → NamePre sh q l₀ at a k → j < k → Naming l j → w ≡ wordOf sh q (a + j) → l′ ≡ set l (at - 1 - j) w → Naming l′ (j + 1)
   naming-more l l′ j w h u v e f =
       record {
         within = omega arith;
         long = ap length f ∙ length-set l (at - 1 - j) w ∙ v .long;
         named =
-            named-more sh q l₀ at j (a + j) w (downs a j) l l′ (omega (arith, h .room)) (h .places) (length-downs a j) (v .long) (v .named) e f
-            ∙ ap (λ z. spliced l₀ (at - (j + 1)) (map (wordOf sh q) (downs a z))) (sym (add-one j));
+            named-more sh q l₀ at j (a + j) w (descending a j) l l′ (omega (arith, h .room)) (h .places) (length-descending a j) (v .long) (v .named) e f
+            ∙ ap (λ z. spliced l₀ (at - (j + 1)) (map (wordOf sh q) (descending a z))) (sym (add-one j));
       }
 
-  pub naming-done : (l : List ℕ) (j : ℕ) → k ≤ j → Naming l j → l ≡ spliced l₀ (at - k) (map (wordOf sh q) (downs a k))
+  pub naming-done : (l : List ℕ) (j : ℕ) → k ≤ j → Naming l j → l ≡ spliced l₀ (at - k) (map (wordOf sh q) (descending a k))
   naming-done l j h v =
       let e : j ≡ k = omega (arith, v .within) in
       rw e at (v .named)
@@ -80,19 +80,19 @@ module _ (sh : Shape) (q : ℕ) (l₀ : List ℕ) (at a k : ℕ) where
   pub record Raising (l : List ℕ) (j : ℕ) : Type 0 where
     pub within : j ≤ k
     pub long : length l ≡ length l₀
-    pub named : l ≡ spliced l₀ (at - j) (map (wordOf sh q) (reverse (downs (a + (k - j)) j)))
+    pub named : l ≡ spliced l₀ (at - j) (map (wordOf sh q) (reverse (descending (a + (k - j)) j)))
 
   pub raising-none : Raising l₀ 0
   raising-none = record { within = omega arith; long = refl; named = sym (spliced-none l₀ (at - 0)) }
 
-  pub raising-more : (l l′ : List ℕ) (j w : ℕ) → NameAsks sh q l₀ at a k → j < k → Raising l j → w ≡ wordOf sh q (a + (k - 1 - j)) → l′ ≡ set l (at - 1 - j) w → Raising l′ (j + 1)
+  pub raising-more : (l l′ : List ℕ) (j w : ℕ) → NamePre sh q l₀ at a k → j < k → Raising l j → w ≡ wordOf sh q (a + (k - 1 - j)) → l′ ≡ set l (at - 1 - j) w → Raising l′ (j + 1)
   raising-more l l′ j w h u v e f =
       let i = a + (k - 1 - j) in
       let next : a + (k - j) ≡ suc i = omega arith in
       let same : i ≡ a + (k - (j + 1)) = omega arith in
-      let xs = reverse (downs (suc i) j) in
-      let was : l ≡ spliced l₀ (at - j) (map (wordOf sh q) xs) = v .named ∙ ap (λ z. spliced l₀ (at - j) (map (wordOf sh q) (reverse (downs z j)))) next in
-      let more : i ∷ xs ≡ reverse (downs (a + (k - (j + 1))) (j + 1)) = sym (rising-more i j) ∙ ap (λ z. reverse (downs i z)) (sym (add-one j)) ∙ ap (λ z. reverse (downs z (j + 1))) same in
+      let xs = reverse (descending (suc i) j) in
+      let was : l ≡ spliced l₀ (at - j) (map (wordOf sh q) xs) = v .named ∙ ap (λ z. spliced l₀ (at - j) (map (wordOf sh q) (reverse (descending z j)))) next in
+      let more : i ∷ xs ≡ reverse (descending (a + (k - (j + 1))) (j + 1)) = sym (rising-more i j) ∙ ap (λ z. reverse (descending i z)) (sym (add-one j)) ∙ ap (λ z. reverse (descending z (j + 1))) same in
       record {
         within = omega arith;
         long = ap length f ∙ length-set l (at - 1 - j) w ∙ v .long;
@@ -101,93 +101,93 @@ module _ (sh : Shape) (q : ℕ) (l₀ : List ℕ) (at a k : ℕ) where
             ∙ ap (λ z. spliced l₀ (at - (j + 1)) (map (wordOf sh q) z)) more;
       }
 
-  pub raising-done : (l : List ℕ) (j : ℕ) → k ≤ j → Raising l j → l ≡ spliced l₀ (at - k) (map (wordOf sh q) (reverse (downs a k)))
+  pub raising-done : (l : List ℕ) (j : ℕ) → k ≤ j → Raising l j → l ≡ spliced l₀ (at - k) (map (wordOf sh q) (reverse (descending a k)))
   raising-done l j h v =
       let e : j ≡ k = omega (arith, v .within) in
       let z : a + (k - k) ≡ a = omega arith in
-      let d : l ≡ spliced l₀ (at - k) (map (wordOf sh q) (reverse (downs (a + (k - k)) k))) = rw e at (v .named) in
-      d ∙ ap (λ y. spliced l₀ (at - k) (map (wordOf sh q) (reverse (downs y k)))) z
+      let d : l ≡ spliced l₀ (at - k) (map (wordOf sh q) (reverse (descending (a + (k - k)) k))) = rw e at (v .named) in
+      d ∙ ap (λ y. spliced l₀ (at - k) (map (wordOf sh q) (reverse (descending y k)))) z
 
 -- ---- out bits
-mark-more : (b : List ℕ) (q a m n : ℕ) → markOut (markOut b q a m) q (a + m) n ≡ markOut b q a (m + n)
-unfolding markOut
-mark-more b q a m zero = rw add-zero
-mark-more b q a m (suc n) =
+set-out-run-more : (b : List ℕ) (q a m n : ℕ) → setOutRun (setOutRun b q a m) q (a + m) n ≡ setOutRun b q a (m + n)
+unfolding setOutRun
+set-out-run-more b q a m zero = rw add-zero
+set-out-run-more b q a m (suc n) =
     let e : a + m + n ≡ a + (m + n) = omega arith in
     let f : suc (m + n) ≡ m + suc n = omega arith in
-    ap (λ z. put z (out q (a + m + n)) 1) (mark-more b q a m n) ∙ ap (λ z. put (markOut b q a (m + n)) (out q z) 1) e ∙ ap (markOut b q a) f
+    ap (λ z. put z (out q (a + m + n)) 1) (set-out-run-more b q a m n) ∙ ap (λ z. put (setOutRun b q a (m + n)) (out q z) 1) e ∙ ap (setOutRun b q a) f
 
-mark-downs : (b : List ℕ) (q a k : ℕ) → markOut b q a k ≡ marks b q 1 (downs a k)
-unfolding markOut
-mark-downs b q a zero = refl
-mark-downs b q a (suc k) = ap (λ z. put z (out q (a + k)) 1) (mark-downs b q a k)
+set-out-run-descending : (b : List ℕ) (q a k : ℕ) → setOutRun b q a k ≡ setOuts b q 1 (descending a k)
+unfolding setOutRun
+set-out-run-descending b q a zero = refl
+set-out-run-descending b q a (suc k) = ap (λ z. put z (out q (a + k)) 1) (set-out-run-descending b q a k)
 
-length-mark : (b : List ℕ) (q a k : ℕ) → length (markOut b q a k) ≡ length b
-unfolding markOut
-length-mark b q a zero = refl
-length-mark b q a (suc k) = length-put (markOut b q a k) (out q (a + k)) 1 ∙ length-mark b q a k
+length-set-out-run : (b : List ℕ) (q a k : ℕ) → length (setOutRun b q a k) ≡ length b
+unfolding setOutRun
+length-set-out-run b q a zero = refl
+length-set-out-run b q a (suc k) = length-put (setOutRun b q a k) (out q (a + k)) 1 ∙ length-set-out-run b q a k
 
 module _ (b₀ : List ℕ) (q a k : ℕ) where
-  pub record Marking (b : List ℕ) (i left : ℕ) : Type 0 where
+  pub record SettingOuts (b : List ℕ) (i left : ℕ) : Type 0 where
     pub begun : a ≤ i
     pub ends : i + left ≡ a + k
     pub long : length b ≡ length b₀
-    pub marked : b ≡ markOut b₀ q a (i - a)
+    pub bitsSet : b ≡ setOutRun b₀ q a (i - a)
 
-  pub marking-none : Marking b₀ a k
-  unfolding markOut
-  marking-none = let z : a - a ≡ 0 = omega arith in record { begun = omega arith; ends = refl; long = refl; marked = rw z }
+  pub setting-outs-none : SettingOuts b₀ a k
+  unfolding setOutRun
+  setting-outs-none = let z : a - a ≡ 0 = omega arith in record { begun = omega arith; ends = refl; long = refl; bitsSet = rw z }
 
-  pub marking-more : (b b′ : List ℕ) (i left n : ℕ) → Marking b i left → n ≡ min (32 - i % 32) left → b′ ≡ markOut b q (32 * (i / 32) + i % 32) n → Marking b′ (i + n) (left - n)
-  marking-more b b′ i left n v e f =
+  pub setting-outs-more : (b b′ : List ℕ) (i left n : ℕ) → SettingOuts b i left → n ≡ min (32 - i % 32) left → b′ ≡ setOutRun b q (32 * (i / 32) + i % 32) n → SettingOuts b′ (i + n) (left - n)
+  setting-outs-more b b′ i left n v e f =
       let at : 32 * (i / 32) + i % 32 ≡ a + (i - a) = omega (arith, v .begun) in
       let to : i - a + n ≡ i + n - a = omega (arith, v .begun) in
       record {
         begun = omega (arith, v .begun);
         ends = omega (arith, v .ends);
-        long = ap length f ∙ length-mark b q (32 * (i / 32) + i % 32) n ∙ v .long;
-        marked =
+        long = ap length f ∙ length-set-out-run b q (32 * (i / 32) + i % 32) n ∙ v .long;
+        bitsSet =
             f
-            ∙ ap (λ z. markOut b q z n) at
-            ∙ ap (λ z. markOut z q (a + (i - a)) n) (v .marked)
-            ∙ mark-more b₀ q a (i - a) n
-            ∙ ap (markOut b₀ q a) to;
+            ∙ ap (λ z. setOutRun b q z n) at
+            ∙ ap (λ z. setOutRun z q (a + (i - a)) n) (v .bitsSet)
+            ∙ set-out-run-more b₀ q a (i - a) n
+            ∙ ap (setOutRun b₀ q a) to;
       }
 
-  pub marking-done : (b : List ℕ) (i left : ℕ) → left ≡ 0 → Marking b i left → b ≡ marks b₀ q 1 (downs a k)
-  marking-done b i left z v =
+  pub setting-outs-done : (b : List ℕ) (i left : ℕ) → left ≡ 0 → SettingOuts b i left → b ≡ setOuts b₀ q 1 (descending a k)
+  setting-outs-done b i left z v =
       let e : i - a ≡ k = omega (arith, v .ends) in
-      v .marked ∙ ap (markOut b₀ q a) e ∙ mark-downs b₀ q a k
+      v .bitsSet ∙ ap (setOutRun b₀ q a) e ∙ set-out-run-descending b₀ q a k
 
 -- ---- both
-pub carved-done : (b : List ℕ) (sh : Shape) (q : ℕ) (l : List ℕ) (at a k : ℕ) (b′ l′ : List ℕ) → l′ ≡ spliced l (at - k) (map (wordOf sh q) (downs a k)) → b′ ≡ marks b q 1 (downs a k)
-    → Gave b sh q l at (downs a k) b′ l′
+pub carved-done : (b : List ℕ) (sh : Shape) (q : ℕ) (l : List ℕ) (at a k : ℕ) (b′ l′ : List ℕ) → l′ ≡ spliced l (at - k) (map (wordOf sh q) (descending a k)) → b′ ≡ setOuts b q 1 (descending a k)
+    → HandedOut b sh q l at (descending a k) b′ l′
 carved-done b sh q l at a k b′ l′ e f =
-    record { outs = f; list = e ∙ ap (λ z. spliced l (at - z) (map (wordOf sh q) (downs a k))) (sym (length-downs a k)) }
+    record { outs = f; list = e ∙ ap (λ z. spliced l (at - z) (map (wordOf sh q) (descending a k))) (sym (length-descending a k)) }
 
 -- ---- the order in which bits are set is all one
-mark-first : (b : List ℕ) (q a : ℕ) (is : List ℕ) → small a ≡ true → every small is ≡ true → put (marks b q 1 is) (out q a) 1 ≡ marks (put b (out q a) 1) q 1 is
-mark-first b q a [] s t = refl
-mark-first b q a (i ∷ is) s t =
+set-out-run-first : (b : List ℕ) (q a : ℕ) (is : List ℕ) → small a ≡ true → every small is ≡ true → put (setOuts b q 1 is) (out q a) 1 ≡ setOuts (put b (out q a) 1) q 1 is
+set-out-run-first b q a [] s t = refl
+set-out-run-first b q a (i ∷ is) s t =
     let si = and-left (small i) (every small is) t in
-    let r = mark-first b q a is s (and-right (small i) (every small is) t) in
+    let r = set-out-run-first b q a is s (and-right (small i) (every small is) t) in
     by-cases (eqb i a)
     (λ e. let z : i ≡ a = eqb-true i a e in rw z (ap (λ y. put y (out q a) 1) r))
-    (λ e. put-comm (marks b q 1 is) (out q i) (out q a) 1 1 si s (rw e) ∙ ap (λ y. put y (out q i) 1) r)
+    (λ e. put-comm (setOuts b q 1 is) (out q i) (out q a) 1 1 si s (rw e) ∙ ap (λ y. put y (out q i) 1) r)
 
-mark-rising : (b : List ℕ) (q a k : ℕ) → a + k ≤ 4096 → marks b q 1 (reverse (downs a k)) ≡ marks b q 1 (downs a k)
-mark-rising b q a zero h = refl
-mark-rising b q a (suc k) h =
-    ap (marks b q 1) (rising-more a k)
-    ∙ ap (λ z. put z (out q a) 1) (mark-rising b q (suc a) k (omega arith))
-    ∙ mark-first b q a (downs (suc a) k) (lt-ltb a 4096 (omega arith)) (downs-below (suc a) k 4096 (omega arith))
-    ∙ marks-append b q 1 (downs (suc a) k) (a ∷ [])
-    ∙ ap (marks b q 1) (sym (downs-last a k))
+set-out-run-rising : (b : List ℕ) (q a k : ℕ) → a + k ≤ 4096 → setOuts b q 1 (reverse (descending a k)) ≡ setOuts b q 1 (descending a k)
+set-out-run-rising b q a zero h = refl
+set-out-run-rising b q a (suc k) h =
+    ap (setOuts b q 1) (rising-more a k)
+    ∙ ap (λ z. put z (out q a) 1) (set-out-run-rising b q (suc a) k (omega arith))
+    ∙ set-out-run-first b q a (descending (suc a) k) (lt-ltb a 4096 (omega arith)) (descending-below (suc a) k 4096 (omega arith))
+    ∙ set-outs-append b q 1 (descending (suc a) k) (a ∷ [])
+    ∙ ap (setOuts b q 1) (sym (descending-last a k))
 
-pub raised-done : (b : List ℕ) (sh : Shape) (q : ℕ) (l : List ℕ) (at a k : ℕ) (b′ l′ : List ℕ) → FreshAsks b sh q l at a k → l′ ≡ spliced l (at - k) (map (wordOf sh q) (reverse (downs a k))) → b′ ≡ marks b q 1 (downs a k)
-    → Gave b sh q l at (reverse (downs a k)) b′ l′
+pub raised-done : (b : List ℕ) (sh : Shape) (q : ℕ) (l : List ℕ) (at a k : ℕ) (b′ l′ : List ℕ) → FreshPre b sh q l at a k → l′ ≡ spliced l (at - k) (map (wordOf sh q) (reverse (descending a k))) → b′ ≡ setOuts b q 1 (descending a k)
+    → HandedOut b sh q l at (reverse (descending a k)) b′ l′
 raised-done b sh q l at a k b′ l′ h e f =
     record {
-      outs = f ∙ sym (mark-rising b q a k (omega (arith, h .blocks, h .sound .few)));
-      list = e ∙ ap (λ z. spliced l (at - z) (map (wordOf sh q) (reverse (downs a k)))) (sym (length-rising a k));
+      outs = f ∙ sym (set-out-run-rising b q a k (omega (arith, h .blocks, h .sound .few)));
+      list = e ∙ ap (λ z. spliced l (at - z) (map (wordOf sh q) (reverse (descending a k)))) (sym (length-rising a k));
     }

@@ -13,16 +13,16 @@ use Rattle.classes.specs.declared.Shape.{Shape}
 use Rattle.fields.specs.Field.{page, free, carved, get}
 use Rattle.model.specs.Page.{wordOf}
 use Rattle.pages.specs.Stack.{hasMore, blocksFrom, indexOf, isBlock}
-use Rattle.pages.specs.way.Asks.{WordAsks, IndexAsks}
+use Rattle.pages.specs.way.Pre.{WordPre, IndexPre}
 use Rattle.lists.proofs.InverseLaws.{divides}
 
 -- a block lies within its run
-pub inside : (sh : Shape) (q i : ℕ) → WordAsks sh q i → q * 4096 + (sh .header + i * sh .block) < 2 ^ 32
+pub inside : (sh : Shape) (q i : ℕ) → WordPre sh q i → q * 4096 + (sh .header + i * sh .block) < 2 ^ 32
 inside sh q i h =
     let l : (i + 1) * sh .block ≤ sh .capacity * sh .block = mul-le-mul-right (sh .block) (omega (arith, h .block)) in
     omega (arith, l, h .below, h .sound .fits, h .sound .wide)
 
-pub word-done : (sh : Shape) (q i w : ℕ) → WordAsks sh q i → w ≡ packBlock (sh .kind) (q * 4096 + (sh .header + i * sh .block)) → w ≡ wordOf sh q i
+pub word-done : (sh : Shape) (q i w : ℕ) → WordPre sh q i → w ≡ packBlock (sh .kind) (q * 4096 + (sh .header + i * sh .block)) → w ≡ wordOf sh q i
 unfolding wordOf
 word-done sh q i w h e =
     let k : sh .kind % 2 ^ 2 ≡ sh .kind = mod-eq-of-lt (omega (arith, h .sound .known)) in
@@ -34,7 +34,7 @@ unfolding indexOf
 index-done sh q w x g e e′ = ap (λ z. (z - blocksFrom sh q) / sh .block) (e′ ∙ ap granuleOf e)
 
 -- a block of the run
-module _ (sh : Shape) (q w y g : ℕ) (a : IndexAsks sh q w) (o : isBlock sh q w ≡ true) (e₁ : y ≡ w) (e₂ : g ≡ granuleOf y) where
+module _ (sh : Shape) (q w y g : ℕ) (a : IndexPre sh q w) (o : isBlock sh q w ≡ true) (e₁ : y ≡ w) (e₂ : g ≡ granuleOf y) where
   pub block-from : q * 4096 + sh .header ≤ g
   unfolding isBlock
   block-from = rw (e₂, e₁) (leb-true (blocksFrom sh q) (granuleOf w) (and-left (leb (blocksFrom sh q) (granuleOf w)) _ o))

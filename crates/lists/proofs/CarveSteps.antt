@@ -14,31 +14,31 @@ use Rattle.fields.proofs.Laws.{length-put}
 use Rattle.fields.proofs.Clear.{length-clear, clear-more, marks-past-out}
 use Rattle.words.specs.Host.{digit}
 use Rattle.pages.specs.Runs.{nameRun}
-use Rattle.pages.specs.Stack.{downs, push}
-use Rattle.pages.specs.way.Asks.{StockAsks, CarveAsks, ClearAsks}
+use Rattle.pages.specs.Stack.{descending, push}
+use Rattle.pages.specs.way.Pre.{StockPre, CarvePre, ClearPre}
 use Rattle.pages.specs.Carve.{stocked, carveAnew, bareBits, bareRun, newRun}
-use Rattle.pages.proofs.Downs.{length-downs}
+use Rattle.pages.proofs.Descending.{length-descending}
 use Rattle.pages.proofs.Frames.{stocked-le}
 
 -- ---- blocks laid on the stack
 pub record StockInv (b₀ : List ℕ) (q k : ℕ) (b : List ℕ) (i : ℕ) : Type 0 where
   pub within : i ≤ k
   pub long : length b ≡ length b₀
-  pub done : b ≡ push b₀ q 0 (downs 0 i)
+  pub done : b ≡ push b₀ q 0 (descending 0 i)
 
 stock-again : (b₀ : List ℕ) (q k : ℕ) (b b′ : List ℕ) (i : ℕ) → i < k → StockInv b₀ q k b i → b′ ≡ put b (slot q i) i → StockInv b₀ q k b′ (i + 1)
 stock-again b₀ q k b b′ i h v e =
     record {
       within = omega arith;
       long = rw e (length-put b (slot q i) i ∙ v .long);
-      done = rw (e, v .done, add-one) (same-put (push b₀ q 0 (downs 0 i)) i (0 + length (downs 0 i)) i (0 + i) (omega (arith, length-downs 0 i)) (omega arith));
+      done = rw (e, v .done, add-one) (same-put (push b₀ q 0 (descending 0 i)) i (0 + length (descending 0 i)) i (0 + i) (omega (arith, length-descending 0 i)) (omega arith));
     }
   where
     same-put : (b : List ℕ) (i j v w : ℕ) → i ≡ j → v ≡ w → put b (slot q i) v ≡ put b (slot q j) w
     same-put b i j v w e f = cc
 
-stock-done : (b₀ : List ℕ) (q k : ℕ) (b : List ℕ) (i : ℕ) → k ≤ i → StockInv b₀ q k b i → b ≡ push b₀ q 0 (downs 0 k)
-stock-done b₀ q k b i h v = let e : i ≡ k = omega (arith, v .within) in v .done ∙ ap (λ z. push b₀ q 0 (downs 0 z)) e
+stock-done : (b₀ : List ℕ) (q k : ℕ) (b : List ℕ) (i : ℕ) → k ≤ i → StockInv b₀ q k b i → b ≡ push b₀ q 0 (descending 0 k)
+stock-done b₀ q k b i h v = let e : i ≡ k = omega (arith, v .within) in v .done ∙ ap (λ z. push b₀ q 0 (descending 0 z)) e
 
 module _ (b₀ : List ℕ) (q k : ℕ) (b : List ℕ) (x : ℕ) (v : StockInv b₀ q k b (2 * x)) where
   pub stock-pair : (b′ : List ℕ) → 2 * x + 1 < k → b′ ≡ put (put b (slot q (2 * x)) (2 * x)) (slot q (2 * x + 1)) (2 * x + 1) → StockInv b₀ q k b′ (2 * (x + 1))
@@ -47,10 +47,10 @@ module _ (b₀ : List ℕ) (q k : ℕ) (b : List ℕ) (x : ℕ) (v : StockInv b�
       let n : 2 * x + 1 + 1 ≡ 2 * (x + 1) = omega arith in
       rw n at (stock-again b₀ q k (put b (slot q (2 * x)) (2 * x)) b′ (2 * x + 1) h w e)
 
-  pub stock-last : (b′ : List ℕ) → k ≤ 2 * x + 1 → 2 * x < k → b′ ≡ put b (slot q (2 * x)) (2 * x) → b′ ≡ push b₀ q 0 (downs 0 k)
+  pub stock-last : (b′ : List ℕ) → k ≤ 2 * x + 1 → 2 * x < k → b′ ≡ put b (slot q (2 * x)) (2 * x) → b′ ≡ push b₀ q 0 (descending 0 k)
   stock-last b′ l h e = stock-done b₀ q k b′ (2 * x + 1) l (stock-again b₀ q k b b′ (2 * x) h v e)
 
-  pub stock-all : k ≤ 2 * x → b ≡ push b₀ q 0 (downs 0 k)
+  pub stock-all : k ≤ 2 * x → b ≡ push b₀ q 0 (descending 0 k)
   stock-all h = stock-done b₀ q k b (2 * x) h v
 
 -- ---- words of out bits and of marks
@@ -63,10 +63,10 @@ pub record ClearInv (b₀ : List ℕ) (q k : ℕ) (b : List ℕ) (i : ℕ) : Typ
   pub long : length b ≡ length b₀
   pub done : b ≡ bareBits b₀ q i
 
-pub word-asks : (b₀ : List ℕ) (q k : ℕ) (b : List ℕ) (i : ℕ) → ClearAsks b₀ q k → ClearInv b₀ q k b i → i < k → ClearAsks b q (i + 1)
-word-asks b₀ q k b i a v h = record { few = omega (arith, a .few); there = rw (v .long) (a .there) }
+pub word-pre : (b₀ : List ℕ) (q k : ℕ) (b : List ℕ) (i : ℕ) → ClearPre b₀ q k → ClearInv b₀ q k b i → i < k → ClearPre b q (i + 1)
+word-pre b₀ q k b i a v h = record { few = omega (arith, a .few); there = rw (v .long) (a .there) }
 
-pub clear-start : (b₀ : List ℕ) (q k : ℕ) → ClearAsks b₀ q k → ClearInv b₀ q k b₀ 0
+pub clear-start : (b₀ : List ℕ) (q k : ℕ) → ClearPre b₀ q k → ClearInv b₀ q k b₀ 0
 unfolding clearOut clearMarks
 clear-start b₀ q k a = record { few = a .few; within = omega arith; long = refl; done = refl }
 
@@ -105,10 +105,10 @@ stocked-all sh h = rw (eq-eqb (sh .kind) 2 h)
 pub stocked-none : (sh : Shape) → (sh .kind ≡ 2 → ⊥) → 0 ≡ stocked sh
 stocked-none sh h = rw (ne-eqb (sh .kind) 2 h)
 
-pub stock-asks : (b : List ℕ) (sh : Shape) (q k : ℕ) → CarveAsks b sh q → k ≡ stocked sh → StockAsks b q k
-stock-asks b sh q k h e = record { few = stocked-le sh k e (h .few); there = h .there }
+pub stock-pre : (b : List ℕ) (sh : Shape) (q k : ℕ) → CarvePre b sh q → k ≡ stocked sh → StockPre b q k
+stock-pre b sh q k h e = record { few = stocked-le sh k e (h .few); there = h .there }
 
-pub carve-done : (b : List ℕ) (sh : Shape) (q : ℕ) (v : Bool) (k f : ℕ) (b₁ b₂ b₃ b₄ : List ℕ) → k ≡ stocked sh → b₁ ≡ push b q 0 (downs 0 k) → f ≡ digit v → b₂ ≡ put b₁ (page virgin q) f → b₃ ≡ put b₂ (page carved q) k → b₄ ≡ put b₃ (page free q) k → b₄ ≡ carveAnew b sh q v
+pub carve-done : (b : List ℕ) (sh : Shape) (q : ℕ) (v : Bool) (k f : ℕ) (b₁ b₂ b₃ b₄ : List ℕ) → k ≡ stocked sh → b₁ ≡ push b q 0 (descending 0 k) → f ≡ digit v → b₂ ≡ put b₁ (page virgin q) f → b₃ ≡ put b₂ (page carved q) k → b₄ ≡ put b₃ (page free q) k → b₄ ≡ carveAnew b sh q v
 unfolding carveAnew
 carve-done b sh q v k f b₁ b₂ b₃ b₄ e e₁ e′ e₂ e₃ e₄ = rw (e₄, e₃, e₂, e₁, e′, e)
 

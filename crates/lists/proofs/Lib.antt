@@ -8,4 +8,4 @@ mod StretchSteps
 pub mod ListSteps
 pub mod RunSteps
 pub mod CarveSteps
-pub mod FairSteps
+pub mod ValidSteps

@@ -12,8 +12,8 @@ use Rattle.fields.specs.Outcome.{putAt}
 use Rattle.fields.proofs.Laws.{get-put-other, length-put}
 use Rattle.pages.specs.declared.Park.{Park}
 use Rattle.pages.specs.declared.Park.the-variants.{Empty, Cold}
-use Rattle.pages.specs.way.Asks.{LinkAsks, WakeAsks}
-use Rattle.pages.specs.Links.{pointNext, linked, cutOut, link, unlink, top, stored, stow, unstow, wake}
+use Rattle.pages.specs.way.Pre.{LinkPre, UnparkRunPre}
+use Rattle.pages.specs.Links.{pointNext, linked, cutOut, link, unlink, top, stored, parkRun, popStore, unparkRun}
 
 pub pointNext-none : (b b′ : List ℕ) (c code v : ℕ) → code ≡ 0 → b′ ≡ put b (class partial c) v → b′ ≡ pointNext b c code v
 pointNext-none b b′ c code v h e = rw h e
@@ -30,19 +30,19 @@ pub put-told : (f : Park → ClassField) (b b′ : List ℕ) (c v : ℕ) (k k′
 put-told f b b′ c v k k′ e h = rw e h
 
 -- a page that leaves a store: the partial list's head is as it was
-partial-unstow : (b : List ℕ) (c : ℕ) (k : Park) (q : ℕ) → ltb c 76 ≡ true → get (unstow b c k q) (class partial c) ≡ get b (class partial c)
-unfolding unstow
-partial-unstow b c Empty q h = simp get-put-other
-partial-unstow b c Cold q h = simp get-put-other
+partial-pop-store : (b : List ℕ) (c : ℕ) (k : Park) (q : ℕ) → ltb c 76 ≡ true → get (popStore b c k q) (class partial c) ≡ get b (class partial c)
+unfolding popStore
+partial-pop-store b c Empty q h = simp get-put-other
+partial-pop-store b c Cold q h = simp get-put-other
 
-length-unstow : (b : List ℕ) (c : ℕ) (k : Park) (q : ℕ) → length (unstow b c k q) ≡ length b
-unfolding unstow
-length-unstow b c k q = simp length-put
+length-pop-store : (b : List ℕ) (c : ℕ) (k : Park) (q : ℕ) → length (popStore b c k q) ≡ length b
+unfolding popStore
+length-pop-store b c k q = simp length-put
 
-pub wake-links : (b b₁ : List ℕ) (c : ℕ) (k : Park) (q : ℕ) → WakeAsks b c k q → b₁ ≡ unstow b c k q → LinkAsks b₁ c q
-wake-links b b₁ c k q h e =
-    let l = length-unstow b c k q in
-    let p = partial-unstow b c k q (lt-ltb c 76 (h .known)) in
+pub unpark-run-links : (b b₁ : List ℕ) (c : ℕ) (k : Park) (q : ℕ) → UnparkRunPre b c k q → b₁ ≡ popStore b c k q → LinkPre b₁ c q
+unpark-run-links b b₁ c k q h e =
+    let l = length-pop-store b c k q in
+    let p = partial-pop-store b c k q (lt-ltb c 76 (h .known)) in
     record { known = h .known; below = h .below; there = rw (e, l) (h .there); head = rw (e, l, p) (h .head) }
 
 module _ (b : List ℕ) (c q : ℕ) where
@@ -62,13 +62,13 @@ module _ (b : List ℕ) (c q : ℕ) where
   unfolding unlink
   unlink-done x y b₁ b₂ e f e₁ e₂ = cc
 
-  pub stow-done : (k : Park) (t m : ℕ) (b₁ b₂ b₃ : List ℕ) → t ≡ get b (class (top k) c) → m ≡ get b (class (stored k) c) → b₁ ≡ put b (page next q) t → b₂ ≡ put b₁ (class (top k) c) (q + 1) → b₃ ≡ put b₂ (class (stored k) c) (m + 1) → b₃ ≡ stow b c k q
-  unfolding stow
-  stow-done k t m b₁ b₂ b₃ e f e₁ e₂ e₃ = cc
+  pub park-run-done : (k : Park) (t m : ℕ) (b₁ b₂ b₃ : List ℕ) → t ≡ get b (class (top k) c) → m ≡ get b (class (stored k) c) → b₁ ≡ put b (page next q) t → b₂ ≡ put b₁ (class (top k) c) (q + 1) → b₃ ≡ put b₂ (class (stored k) c) (m + 1) → b₃ ≡ parkRun b c k q
+  unfolding parkRun
+  park-run-done k t m b₁ b₂ b₃ e f e₁ e₂ e₃ = cc
 
-  pub unstow-done : (k : Park) (x m : ℕ) (b₁ b₂ : List ℕ) → x ≡ get b (page next q) → m ≡ get b (class (stored k) c) → b₁ ≡ put b (class (top k) c) x → b₂ ≡ put b₁ (class (stored k) c) (m - 1) → b₂ ≡ unstow b c k q
-  unfolding unstow
-  unstow-done k x m b₁ b₂ e f e₁ e₂ = cc
+  pub pop-store-done : (k : Park) (x m : ℕ) (b₁ b₂ : List ℕ) → x ≡ get b (page next q) → m ≡ get b (class (stored k) c) → b₁ ≡ put b (class (top k) c) x → b₂ ≡ put b₁ (class (stored k) c) (m - 1) → b₂ ≡ popStore b c k q
+  unfolding popStore
+  pop-store-done k x m b₁ b₂ e f e₁ e₂ = cc
 
-  pub wake-done : (k : Park) (b₁ b₂ : List ℕ) → b₁ ≡ unstow b c k q → b₂ ≡ link b₁ c q → b₂ ≡ wake b c k q
-  wake-done k b₁ b₂ e₁ e₂ = cc
+  pub unpark-run-done : (k : Park) (b₁ b₂ : List ℕ) → b₁ ≡ popStore b c k q → b₂ ≡ link b₁ c q → b₂ ≡ unparkRun b c k q
+  unpark-run-done k b₁ b₂ e₁ e₂ = cc

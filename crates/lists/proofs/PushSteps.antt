@@ -1,4 +1,4 @@
--- Blocks laid back one after another, from the list's last on, and two at a time.
+-- Blocks pushed back one after another, from the list's last on, and two at a time.
 use Prim.Native.Nat.{ℕ, suc, _+_, _-_, _*_, _/_, _%_, _≤_, _<_}
 use native.Mathlib.Omega.{arith}
 use native.Mathlib.Nat.{add-zero}
@@ -17,26 +17,26 @@ use Rattle.fields.specs.Ranges.{maxPages}
 use Rattle.fields.specs.Field.{page, slot, free, virgin, get, put}
 use Rattle.fields.proofs.Laws.{length-put}
 use Rattle.pages.specs.Stack.{pageSlots, indexOf, isBlock, push, pushed}
-use Rattle.pages.specs.way.Asks.{IndexAsks, LayAsks}
-use Rattle.lists.specs.way.Lay.{PairsAsks}
+use Rattle.pages.specs.way.Pre.{IndexPre, PushEntriesPre}
+use Rattle.lists.specs.way.Push.{PairsPre}
 
 -- each listed word's block has an index
-index-asks : (sh : Shape) (q : ℕ) (ws : List ℕ) (k : ℕ) → Sound sh → q < maxPages → every (λ w. ltb (indexOf sh q w) pageSlots) ws ≡ true → k < length ws → IndexAsks sh q (getD ws k 0)
-index-asks sh q ws k s below bits l = record { sound = s; below = below; bit = every-get (λ w. ltb (indexOf sh q w) pageSlots) ws k bits l }
+index-pre : (sh : Shape) (q : ℕ) (ws : List ℕ) (k : ℕ) → Sound sh → q < maxPages → every (λ w. ltb (indexOf sh q w) pageSlots) ws ≡ true → k < length ws → IndexPre sh q (getD ws k 0)
+index-pre sh q ws k s below bits l = record { sound = s; below = below; bit = every-get (λ w. ltb (indexOf sh q w) pageSlots) ws k bits l }
 
 module _ (b₀ : List ℕ) (sh : Shape) (q top : ℕ) (ws : List ℕ) where
   -- those from place i on lie on the stack
-  pub record Laying (b : List ℕ) (i t : ℕ) : Type 0 where
+  pub record Pushing (b : List ℕ) (i t : ℕ) : Type 0 where
     pub within : i ≤ length ws
     pub height : t + i ≡ top + length ws
     pub long : length b ≡ length b₀
-    pub laid : b ≡ push b₀ q top (map (indexOf sh q) (drop i ws))
+    pub stacked : b ≡ push b₀ q top (map (indexOf sh q) (drop i ws))
 
-  pub laying-none : Laying b₀ (length ws) top
-  laying-none = record { within = omega arith; height = refl; long = refl; laid = ap (λ z. push b₀ q top (map (indexOf sh q) z)) (sym (drop-length ws)) }
+  pub pushing-none : Pushing b₀ (length ws) top
+  pushing-none = record { within = omega arith; height = refl; long = refl; stacked = ap (λ z. push b₀ q top (map (indexOf sh q) z)) (sym (drop-length ws)) }
 
-  pub laying-more : (b b′ : List ℕ) (i t k : ℕ) → (i ≡ 0 → ⊥) → Laying b i t → k ≡ indexOf sh q (getD ws (i - 1) 0) → b′ ≡ put b (slot q t) k → Laying b′ (i - 1) (t + 1)
-  laying-more b b′ i t k h v e₁ e₂ =
+  pub pushing-more : (b b′ : List ℕ) (i t k : ℕ) → (i ≡ 0 → ⊥) → Pushing b i t → k ≡ indexOf sh q (getD ws (i - 1) 0) → b′ ≡ put b (slot q t) k → Pushing b′ (i - 1) (t + 1)
+  pushing-more b b′ i t k h v e₁ e₂ =
       let f = indexOf sh q in
       let back : suc (i - 1) ≡ i = omega arith in
       let next : drop (i - 1) ws ≡ getD ws (i - 1) 0 ∷ drop i ws =
@@ -46,16 +46,16 @@ module _ (b₀ : List ℕ) (sh : Shape) (q top : ℕ) (ws : List ℕ) where
         within = omega (arith, v .within);
         height = omega (arith, v .height);
         long = ap length e₂ ∙ length-put b (slot q t) k ∙ v .long;
-        laid =
+        stacked =
             e₂
-            ∙ ap (λ z. put z (slot q t) k) (v .laid)
+            ∙ ap (λ z. put z (slot q t) k) (v .stacked)
             ∙ ap (λ z. put (push b₀ q top (map f (drop i ws))) (slot q z) k) under
             ∙ ap (put (push b₀ q top (map f (drop i ws))) (slot q (top + length (map f (drop i ws))))) e₁
             ∙ ap (λ z. push b₀ q top (map f z)) (sym next);
       }
 
-  pub laying-done : (b : List ℕ) (i t : ℕ) → i ≡ 0 → Laying b i t → b ≡ push b₀ q top (map (indexOf sh q) ws)
-  laying-done b i t h v = rw h at (v .laid)
+  pub pushing-done : (b : List ℕ) (i t : ℕ) → i ≡ 0 → Pushing b i t → b ≡ push b₀ q top (map (indexOf sh q) ws)
+  pushing-done b i t h v = rw h at (v .stacked)
 
 -- ---- two at a time
 module _ (b₀ : List ℕ) (sh : Shape) (q x : ℕ) (ws : List ℕ) (n : ℕ) where
@@ -63,21 +63,21 @@ module _ (b₀ : List ℕ) (sh : Shape) (q x : ℕ) (ws : List ℕ) (n : ℕ) wh
     pub within : i ≤ n
     pub height : 2 * t + i ≡ 2 * x + n
     pub long : length b ≡ length b₀
-    pub laying : Laying b₀ sh q (2 * x) (take n ws) b i (2 * t)
+    pub pushing : Pushing b₀ sh q (2 * x) (take n ws) b i (2 * t)
 
-  module _ (a : PairsAsks b₀ sh q x ws n) where
-    asks : (k : ℕ) → k < n → IndexAsks sh q (getD ws k 0)
-    asks k l = index-asks sh q ws k (a .sound) (a .below) (a .bits) (omega (arith, a .within))
+  module _ (a : PairsPre b₀ sh q x ws n) where
+    pre : (k : ℕ) → k < n → IndexPre sh q (getD ws k 0)
+    pre k l = index-pre sh q ws k (a .sound) (a .below) (a .bits) (omega (arith, a .within))
 
     module _ (b : List ℕ) (i t : ℕ) (v : Pairing b i t) where
-      pub high-asks : 1 < i → IndexAsks sh q (getD ws (i - 2 + 1) 0)
-      high-asks h = asks (i - 2 + 1) (omega (arith, v .within))
+      pub high-pre : 1 < i → IndexPre sh q (getD ws (i - 2 + 1) 0)
+      high-pre h = pre (i - 2 + 1) (omega (arith, v .within))
 
-      pub low-asks : 1 < i → IndexAsks sh q (getD ws (i - 2) 0)
-      low-asks h = asks (i - 2) (omega (arith, v .within))
+      pub low-pre : 1 < i → IndexPre sh q (getD ws (i - 2) 0)
+      low-pre h = pre (i - 2) (omega (arith, v .within))
 
-      pub last-asks : (i ≡ 0 → ⊥) → IndexAsks sh q (getD ws 0 0)
-      last-asks h = asks 0 (omega (arith, v .within))
+      pub last-pre : (i ≡ 0 → ⊥) → IndexPre sh q (getD ws 0 0)
+      last-pre h = pre 0 (omega (arith, v .within))
 
   module _ (enough : n ≤ length ws) where
     pub pairing-none : Pairing b₀ n x
@@ -86,7 +86,7 @@ module _ (b₀ : List ℕ) (sh : Shape) (q x : ℕ) (ws : List ℕ) (n : ℕ) wh
           within = omega arith;
           height = refl;
           long = refl;
-          laying = rw (length-take-le n ws enough) at (laying-none b₀ sh q (2 * x) (take n ws));
+          pushing = rw (length-take-le n ws enough) at (pushing-none b₀ sh q (2 * x) (take n ws));
         }
 
     module _ (b : List ℕ) (i t : ℕ) (v : Pairing b i t) where
@@ -102,10 +102,10 @@ module _ (b₀ : List ℕ) (sh : Shape) (q x : ℕ) (ws : List ℕ) (n : ℕ) wh
         last-block h = every-get (isBlock sh q) ws 0 o (omega (arith, v .within))
 
       -- one of them
-      one : (k j : ℕ) → 1 ≤ i → j ≡ i - 1 → k ≡ indexOf sh q (getD ws j 0) → Laying b₀ sh q (2 * x) (take n ws) (put b (slot q (2 * t)) k) (i - 1) (2 * t + 1)
+      one : (k j : ℕ) → 1 ≤ i → j ≡ i - 1 → k ≡ indexOf sh q (getD ws j 0) → Pushing b₀ sh q (2 * x) (take n ws) (put b (slot q (2 * t)) k) (i - 1) (2 * t + 1)
       one k j h e f =
           let g : k ≡ indexOf sh q (getD (take n ws) (i - 1) 0) = f ∙ ap (indexOf sh q) (ap (λ z. getD ws z 0) e ∙ sym (getD-take n ws (i - 1) 0 (omega (arith, v .within)))) in
-          laying-more b₀ sh q (2 * x) (take n ws) b (put b (slot q (2 * t)) k) i (2 * t) k (λ z. omega arith) (v .laying) g refl
+          pushing-more b₀ sh q (2 * x) (take n ws) b (put b (slot q (2 * t)) k) i (2 * t) k (λ z. omega arith) (v .pushing) g refl
 
       pub pairing-more : (b′ : List ℕ) (k l : ℕ) → 1 < i → k ≡ indexOf sh q (getD ws (i - 2 + 1) 0) → l ≡ indexOf sh q (getD ws (i - 2) 0)
           → b′ ≡ put (put b (slot q (2 * t)) k) (slot q (2 * t + 1)) l → Pairing b′ (i - 2) (t + 1)
@@ -114,21 +114,21 @@ module _ (b₀ : List ℕ) (sh : Shape) (q x : ℕ) (ws : List ℕ) (n : ℕ) wh
           let j : i - 1 - 1 ≡ i - 2 = omega arith in
           let u : 2 * t + 1 + 1 ≡ 2 * (t + 1) = omega arith in
           let g : l ≡ indexOf sh q (getD (take n ws) (i - 1 - 1) 0) = e₂ ∙ ap (indexOf sh q) (ap (λ z. getD ws z 0) (sym j) ∙ sym (getD-take n ws (i - 1 - 1) 0 (omega (arith, v .within)))) in
-          let y = laying-more b₀ sh q (2 * x) (take n ws) c b′ (i - 1) (2 * t + 1) l (λ z. omega arith) (one k (i - 2 + 1) (omega arith) (omega arith) e₁) g e in
+          let y = pushing-more b₀ sh q (2 * x) (take n ws) c b′ (i - 1) (2 * t + 1) l (λ z. omega arith) (one k (i - 2 + 1) (omega arith) (omega arith) e₁) g e in
           record {
             within = omega (arith, v .within);
             height = omega (arith, v .height);
             long = ap length e ∙ length-put c (slot q (2 * t + 1)) l ∙ length-put b (slot q (2 * t)) k ∙ v .long;
-            laying = rw (j, u) at y;
+            pushing = rw (j, u) at y;
           }
 
       pub pairing-done : i ≡ 0 → b ≡ push b₀ q (2 * x) (map (indexOf sh q) (take n ws))
-      pairing-done h = laying-done b₀ sh q (2 * x) (take n ws) b i (2 * t) h (v .laying)
+      pairing-done h = pushing-done b₀ sh q (2 * x) (take n ws) b i (2 * t) h (v .pushing)
 
       pub pairing-last : (b′ : List ℕ) (k : ℕ) → i ≤ 1 → (i ≡ 0 → ⊥) → k ≡ indexOf sh q (getD ws 0 0) → b′ ≡ put b (slot q (2 * t)) k
           → b′ ≡ push b₀ q (2 * x) (map (indexOf sh q) (take n ws))
       pairing-last b′ k h d e f =
-          f ∙ laying-done b₀ sh q (2 * x) (take n ws) (put b (slot q (2 * t)) k) (i - 1) (2 * t + 1) (omega arith) (one k 0 (omega arith) (omega arith) e)
+          f ∙ pushing-done b₀ sh q (2 * x) (take n ws) (put b (slot q (2 * t)) k) (i - 1) (2 * t + 1) (omega arith) (one k 0 (omega arith) (omega arith) e)
 
 -- ---- one below them
 push-under : (b : List ℕ) (q t j : ℕ) (is : List ℕ) → push (put b (slot q t) j) q (t + 1) is ≡ push b q t (is ++ (j ∷ []))
@@ -137,15 +137,15 @@ push-under b q t j (i ∷ is) =
     let e : t + 1 + length is ≡ t + length (is ++ (j ∷ [])) = omega (arith, length-append is (j ∷ [])) in
     rw (push-under b q t j is, e)
 
-module _ (b : List ℕ) (sh : Shape) (q t : ℕ) (ws : List ℕ) (a : LayAsks b sh q t ws) (some : length ws ≡ 0 → ⊥) where
-  pub first-asks : IndexAsks sh q (getD ws 0 0)
-  first-asks = index-asks sh q ws 0 (a .sound) (a .below) (a .bits) (omega arith)
+module _ (b : List ℕ) (sh : Shape) (q t : ℕ) (ws : List ℕ) (a : PushEntriesPre b sh q t ws) (some : length ws ≡ 0 → ⊥) where
+  pub first-pre : IndexPre sh q (getD ws 0 0)
+  first-pre = index-pre sh q ws 0 (a .sound) (a .below) (a .bits) (omega arith)
 
-  pub end-asks : IndexAsks sh q (getD ws (length ws - 1) 0)
-  end-asks = index-asks sh q ws (length ws - 1) (a .sound) (a .below) (a .bits) (omega arith)
+  pub end-pre : IndexPre sh q (getD ws (length ws - 1) 0)
+  end-pre = index-pre sh q ws (length ws - 1) (a .sound) (a .below) (a .bits) (omega arith)
 
-  pub odd-asks : (b₁ : List ℕ) (k : ℕ) → (t % 2 ≡ 0 → ⊥) → b₁ ≡ put b (slot q t) k → PairsAsks b₁ sh q (t / 2 + 1) ws (length ws - 1)
-  odd-asks b₁ k o e =
+  pub odd-pre : (b₁ : List ℕ) (k : ℕ) → (t % 2 ≡ 0 → ⊥) → b₁ ≡ put b (slot q t) k → PairsPre b₁ sh q (t / 2 + 1) ws (length ws - 1)
+  odd-pre b₁ k o e =
       record {
         sound = a .sound;
         below = a .below;
@@ -162,29 +162,29 @@ module _ (b : List ℕ) (sh : Shape) (q t : ℕ) (ws : List ℕ) (n : ℕ) (e : 
   pub under-block : every (isBlock sh q) ws ≡ true → (n ≡ 0 → ⊥) → isBlock sh q (getD ws (n - 1) 0) ≡ true
   under-block o h = every-get (isBlock sh q) ws (n - 1) o (omega arith)
 
-  pub lay-none : n ≡ 0 → b ≡ push b q t (map (indexOf sh q) ws)
-  lay-none h = by ws (sym e ∙ h)
+  pub push-none : n ≡ 0 → b ≡ push b q t (map (indexOf sh q) ws)
+  push-none h = by ws (sym e ∙ h)
     where
       by : (vs : List ℕ) → length vs ≡ 0 → b ≡ push b q t (map (indexOf sh q) vs)
       by [] z = refl
       by (v ∷ vs) z = absurd (omega arith)
 
-  pub lay-one : (b′ : List ℕ) (k : ℕ) → n ≡ 1 → k ≡ indexOf sh q (getD ws 0 0) → b′ ≡ put b (slot q t) k → b′ ≡ push b q t (map (indexOf sh q) ws)
-  lay-one b′ k h f g = g ∙ ap (put b (slot q t)) f ∙ by ws (sym e ∙ h)
+  pub push-one : (b′ : List ℕ) (k : ℕ) → n ≡ 1 → k ≡ indexOf sh q (getD ws 0 0) → b′ ≡ put b (slot q t) k → b′ ≡ push b q t (map (indexOf sh q) ws)
+  push-one b′ k h f g = g ∙ ap (put b (slot q t)) f ∙ by ws (sym e ∙ h)
     where
       by : (vs : List ℕ) → length vs ≡ 1 → put b (slot q t) (indexOf sh q (getD vs 0 0)) ≡ push b q t (map (indexOf sh q) vs)
       by [] z = absurd (omega arith)
       by (v ∷ []) z = rw add-zero
       by (v ∷ (u ∷ vs)) z = absurd (omega arith)
 
-  pub lay-even : (b′ : List ℕ) → t % 2 ≡ 0 → b′ ≡ push b q (2 * (t / 2)) (map (indexOf sh q) (take n ws)) → b′ ≡ push b q t (map (indexOf sh q) ws)
-  lay-even b′ h f =
+  pub push-even : (b′ : List ℕ) → t % 2 ≡ 0 → b′ ≡ push b q (2 * (t / 2)) (map (indexOf sh q) (take n ws)) → b′ ≡ push b q t (map (indexOf sh q) ws)
+  push-even b′ h f =
       let u : 2 * (t / 2) ≡ t = omega arith in
       f ∙ ap (λ z. push b q z (map (indexOf sh q) (take n ws))) u ∙ ap (λ z. push b q t (map (indexOf sh q) z)) (ap (λ z. take z ws) e ∙ take-length ws)
 
-  pub lay-odd : (b₁ b₂ : List ℕ) (k : ℕ) → (n ≡ 0 → ⊥) → (t % 2 ≡ 0 → ⊥) → k ≡ indexOf sh q (getD ws (n - 1) 0) → b₁ ≡ put b (slot q t) k
+  pub push-odd : (b₁ b₂ : List ℕ) (k : ℕ) → (n ≡ 0 → ⊥) → (t % 2 ≡ 0 → ⊥) → k ≡ indexOf sh q (getD ws (n - 1) 0) → b₁ ≡ put b (slot q t) k
       → b₂ ≡ push b₁ q (2 * (t / 2 + 1)) (map (indexOf sh q) (take (n - 1) ws)) → b₂ ≡ push b q t (map (indexOf sh q) ws)
-  lay-odd b₁ b₂ k d o f e₁ e₂ =
+  push-odd b₁ b₂ k d o f e₁ e₂ =
       let g = indexOf sh q in
       let u : 2 * (t / 2 + 1) ≡ t + 1 = omega arith in
       let m : suc (n - 1) ≡ length ws = omega arith in

@@ -8,9 +8,9 @@ use lib.Dec.{eqb}
 use borrow.Author.Tests.{eqb-true}
 use Rattle.facts.proofs.Bools.{and-left, and-right}
 use Rattle.fields.specs.Field.{slot, get}
-use Rattle.pages.specs.Stack.{tops, downs}
-use Rattle.pages.proofs.Tops.{popped-more}
-use Rattle.lists.specs.way.Stretch.{StretchAsks}
+use Rattle.pages.specs.Stack.{topEntries, descending}
+use Rattle.pages.proofs.TopEntries.{popped-more}
+use Rattle.lists.specs.way.Stretch.{StretchPre}
 
 module _ (b : List ℕ) (q : ℕ) where
   abbrev pairIs : ℕ → ℕ → ℕ → Bool → Bool
@@ -41,9 +41,9 @@ module _ (b : List ℕ) (q : ℕ) where
       pub begun : x ≤ z
       pub within : z ≤ y
       pub next : i ≡ a + (2 * z - 2 * x)
-      pub rises : so ≡ true → tops b q (2 * z - 2 * x) (2 * z) ≡ downs a (2 * z - 2 * x)
+      pub rises : so ≡ true → topEntries b q (2 * z - 2 * x) (2 * z) ≡ descending a (2 * z - 2 * x)
 
-    pub rising-none : StretchAsks b q x y a → Rising true x a
+    pub rising-none : StretchPre b q x y a → Rising true x a
     rising-none h = let n : 2 * x - 2 * x ≡ 0 = omega arith in record { begun = omega arith; within = h .begins; next = omega arith; rises = λ e. rw n }
 
     pub rising-more : (so r : Bool) (z i : ℕ) → z < y → Rising so z i → r ≡ pairIs z i (i + 1) so → Rising r (z + 1) (i + 2)
@@ -61,14 +61,14 @@ module _ (b : List ℕ) (q : ℕ) where
               let one : i + 1 ≡ a + suc m = omega (arith, v .next) in
               let hi : get b (slot q (suc (2 * z))) ≡ a + suc m = ap (λ k. get b (slot q k)) at ∙ p .high ∙ one in
               let lo : get b (slot q (2 * z)) ≡ a + m = p .low ∙ v .next in
-              ap₂ (tops b q) n t
-              ∙ ap (λ w. w ∷ get b (slot q (2 * z)) ∷ tops b q m (2 * z)) hi
-              ∙ ap (λ w. (a + suc m) ∷ w ∷ tops b q m (2 * z)) lo
+              ap₂ (topEntries b q) n t
+              ∙ ap (λ w. w ∷ get b (slot q (2 * z)) ∷ topEntries b q m (2 * z)) hi
+              ∙ ap (λ w. (a + suc m) ∷ w ∷ topEntries b q m (2 * z)) lo
               ∙ ap (λ w. (a + suc m) ∷ (a + m) ∷ w) (v .rises (p .before))
-              ∙ ap (downs a) (sym n);
+              ∙ ap (descending a) (sym n);
         }
 
-    pub rising-done : (so : Bool) (z i : ℕ) → y ≤ z → Rising so z i → so ≡ true → tops b q (2 * y - 2 * x) (2 * y) ≡ downs a (2 * y - 2 * x)
+    pub rising-done : (so : Bool) (z i : ℕ) → y ≤ z → Rising so z i → so ≡ true → topEntries b q (2 * y - 2 * x) (2 * y) ≡ descending a (2 * y - 2 * x)
     rising-done so z i h v s = let e : z ≡ y = omega (arith, v .within) in rw e at (v .rises s)
 
     -- ---- the lowest on top
@@ -76,9 +76,9 @@ module _ (b : List ℕ) (q : ℕ) where
       pub begun : z ≤ y
       pub within : x ≤ z
       pub next : i ≡ a + (2 * y - 2 * z)
-      pub falls : so ≡ true → reverse (tops b q (2 * y - 2 * z) (2 * y)) ≡ downs a (2 * y - 2 * z)
+      pub falls : so ≡ true → reverse (topEntries b q (2 * y - 2 * z) (2 * y)) ≡ descending a (2 * y - 2 * z)
 
-    pub falling-none : StretchAsks b q x y a → Falling true y a
+    pub falling-none : StretchPre b q x y a → Falling true y a
     falling-none h = let n : 2 * y - 2 * y ≡ 0 = omega arith in record { begun = omega arith; within = h .begins; next = omega arith; falls = λ e. rw n }
 
     pub falling-more : (so r : Bool) (z i : ℕ) → x < z → Falling so z i → r ≡ pairIs (z - 1) (i + 1) i so → Falling r (z - 1) (i + 2)
@@ -96,14 +96,14 @@ module _ (b : List ℕ) (q : ℕ) where
               let one : i + 1 ≡ a + suc m = omega (arith, v .next) in
               let lo : get b (slot q (2 * y - suc (suc m))) ≡ a + suc m = ap (λ k. get b (slot q k)) at ∙ p .low ∙ one in
               let hi : get b (slot q (2 * y - suc m)) ≡ a + m = ap (λ k. get b (slot q k)) at′ ∙ p .high ∙ v .next in
-              ap (λ k. reverse (tops b q k (2 * y))) n
+              ap (λ k. reverse (topEntries b q k (2 * y))) n
               ∙ popped-more b q (suc m) (2 * y) (omega (arith, v .begun))
               ∙ ap (λ w. get b (slot q (2 * y - suc (suc m))) ∷ w) (popped-more b q m (2 * y) (omega (arith, v .begun)))
-              ∙ ap (λ w. w ∷ get b (slot q (2 * y - suc m)) ∷ reverse (tops b q m (2 * y))) lo
-              ∙ ap (λ w. (a + suc m) ∷ w ∷ reverse (tops b q m (2 * y))) hi
+              ∙ ap (λ w. w ∷ get b (slot q (2 * y - suc m)) ∷ reverse (topEntries b q m (2 * y))) lo
+              ∙ ap (λ w. (a + suc m) ∷ w ∷ reverse (topEntries b q m (2 * y))) hi
               ∙ ap (λ w. (a + suc m) ∷ (a + m) ∷ w) (v .falls (p .before))
-              ∙ ap (downs a) (sym n);
+              ∙ ap (descending a) (sym n);
         }
 
-    pub falling-done : (so : Bool) (z i : ℕ) → z ≤ x → Falling so z i → so ≡ true → reverse (tops b q (2 * y - 2 * x) (2 * y)) ≡ downs a (2 * y - 2 * x)
+    pub falling-done : (so : Bool) (z i : ℕ) → z ≤ x → Falling so z i → so ≡ true → reverse (topEntries b q (2 * y - 2 * x) (2 * y)) ≡ descending a (2 * y - 2 * x)
     falling-done so z i h v s = let e : z ≡ x = omega (arith, v .within) in rw e at (v .falls s)

@@ -1,2 +1,2 @@
-pub mod Lay
+pub mod Push
 pub mod Stretch

@@ -3,16 +3,16 @@ ghost use mathlib.Core.List.{map, reverse};
 ghost use mathlib.Core.Path.{_≡_};
 ghost use Prim.Native.Nat.{_-_};
 ghost use Rattle.model.specs.Page.{wordOf};
-ghost use Rattle.pages.specs.Stack.{downs, marks, spliced, Gave};
-ghost use Rattle.pages.specs.way.Asks.{NameAsks, MarkAsks, FreshAsks};
+ghost use Rattle.pages.specs.Stack.{descending, setOuts, spliced, HandedOut};
+ghost use Rattle.pages.specs.way.Pre.{NamePre, SetOutRunPre, FreshPre};
 use crate::blocks::min;
 use crate::blocks::word_of;
 use classes::Shape;
 
 // The words of k blocks from block `from` on, to the list's places below `at`.
 fn name_blocks(shape: Shape, q: u32, list: &mut [u64], at: u32, from: u32, k: u32)
-    requires { ⌜ NameAsks shape q (now list) at from k ⌝ }
-    ensures { λ _. ⌜ now (list .exit) ≡ spliced (now (list .entry)) (at - k) (map (wordOf shape q) (downs from k)) ⌝ }
+    requires { ⌜ NamePre shape q (now list) at from k ⌝ }
+    ensures { λ _. ⌜ now (list .exit) ≡ spliced (now (list .entry)) (at - k) (map (wordOf shape q) (descending from k)) ⌝ }
 {
     let mut j = 0;
     while j < k {
@@ -23,8 +23,8 @@ fn name_blocks(shape: Shape, q: u32, list: &mut [u64], at: u32, from: u32, k: u3
 
 // The same with the lowest block's word first.
 fn raise_names(shape: Shape, q: u32, list: &mut [u64], at: u32, from: u32, k: u32)
-    requires { ⌜ NameAsks shape q (now list) at from k ⌝ }
-    ensures { λ _. ⌜ now (list .exit) ≡ spliced (now (list .entry)) (at - k) (map (wordOf shape q) (reverse (downs from k))) ⌝ }
+    requires { ⌜ NamePre shape q (now list) at from k ⌝ }
+    ensures { λ _. ⌜ now (list .exit) ≡ spliced (now (list .entry)) (at - k) (map (wordOf shape q) (reverse (descending from k))) ⌝ }
 {
     let mut j = 0;
     while j < k {
@@ -34,16 +34,16 @@ fn raise_names(shape: Shape, q: u32, list: &mut [u64], at: u32, from: u32, k: u3
 }
 
 // k blocks from block `from` on are out.
-fn mark_blocks(meta: &mut [u32], q: u32, from: u32, k: u32)
-    requires { ⌜ MarkAsks (now meta) q from k ⌝ }
-    ensures { λ _. ⌜ now (meta .exit) ≡ marks (now (meta .entry)) q 1 (downs from k) ⌝ }
+fn set_out_run(meta: &mut [u32], q: u32, from: u32, k: u32)
+    requires { ⌜ SetOutRunPre (now meta) q from k ⌝ }
+    ensures { λ _. ⌜ now (meta .exit) ≡ setOuts (now (meta .entry)) q 1 (descending from k) ⌝ }
 {
     let mut i = from;
     let mut left = k;
     while left != 0 {
         let bit = i % 32;
         let n = min(32 - bit, left);
-        fields::out::mark_run(meta, q, i / 32, bit, n);
+        fields::out::set_in_word(meta, q, i / 32, bit, n);
         i += n;
         left -= n;
     }
@@ -59,11 +59,11 @@ pub fn carve_blocks(
     from: u32,
     k: u32,
 )
-    requires { ⌜ FreshAsks (now meta) shape q (now list) at from k ⌝ }
-    ensures { λ _. ⌜ Gave (now (meta .entry)) shape q (now (list .entry)) at (downs from k) (now (meta .exit)) (now (list .exit)) ⌝ }
+    requires { ⌜ FreshPre (now meta) shape q (now list) at from k ⌝ }
+    ensures { λ _. ⌜ HandedOut (now (meta .entry)) shape q (now (list .entry)) at (descending from k) (now (meta .exit)) (now (list .exit)) ⌝ }
 {
     name_blocks(shape, q, list, at, from, k);
-    mark_blocks(meta, q, from, k);
+    set_out_run(meta, q, from, k);
 }
 
 // k blocks from block `from` on that lie on the stack, the highest on top.
@@ -76,9 +76,9 @@ pub fn raise_blocks(
     from: u32,
     k: u32,
 )
-    requires { ⌜ FreshAsks (now meta) shape q (now list) at from k ⌝ }
-    ensures { λ _. ⌜ Gave (now (meta .entry)) shape q (now (list .entry)) at (reverse (downs from k)) (now (meta .exit)) (now (list .exit)) ⌝ }
+    requires { ⌜ FreshPre (now meta) shape q (now list) at from k ⌝ }
+    ensures { λ _. ⌜ HandedOut (now (meta .entry)) shape q (now (list .entry)) at (reverse (descending from k)) (now (meta .exit)) (now (list .exit)) ⌝ }
 {
     raise_names(shape, q, list, at, from, k);
-    mark_blocks(meta, q, from, k);
+    set_out_run(meta, q, from, k);
 }

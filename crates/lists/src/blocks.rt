@@ -6,7 +6,7 @@ ghost use Rattle.fields.specs.Field.{words};
 ghost use Rattle.model.specs.Page.{wordOf};
 ghost use mathlib.Core.Bool.{true};
 ghost use Rattle.pages.specs.Stack.{hasMore, indexOf, isBlock};
-ghost use Rattle.pages.specs.way.Asks.{WordAsks, IndexAsks};
+ghost use Rattle.pages.specs.way.Pre.{WordPre, IndexPre};
 use classes::Shape;
 use words::Word;
 
@@ -21,7 +21,7 @@ pub fn min(a: u32, b: u32) -> u32
 
 // The word of block i of the run at q.
 pub fn word_of(shape: Shape, q: u32, i: u32) -> u64
-    requires { ⌜ WordAsks shape q i ⌝ }
+    requires { ⌜ WordPre shape q i ⌝ }
     ensures { λ r. ⌜ r ≡ wordOf shape q i ⌝ }
 {
     let word = Word::block(
@@ -33,7 +33,7 @@ pub fn word_of(shape: Shape, q: u32, i: u32) -> u64
 
 // The index of a word that is a block of the run at q: a run is less than 2^16 granules long, so that a product divides.
 pub fn index_of(shape: Shape, q: u32, w: u64) -> u32
-    requires { ⌜ IndexAsks shape q w ⌝ }
+    requires { ⌜ IndexPre shape q w ⌝ }
     requires { ⌜ isBlock shape q w ≡ true ⌝ }
     ensures { λ r. ⌜ r ≡ indexOf shape q w ⌝ }
 {

@@ -4,17 +4,17 @@ ghost use Prim.Native.Nat.{_+_, _*_};
 ghost use Rattle.fields.specs.Clear.{clearOut};
 ghost use Rattle.fields.specs.Field.{mark, put};
 ghost use Rattle.words.specs.Host.{digit};
-ghost use Rattle.pages.specs.Stack.{downs, push};
+ghost use Rattle.pages.specs.Stack.{descending, push};
 ghost use Rattle.pages.specs.Carve.{stocked, carveAnew, bareBits, newRun};
-ghost use Rattle.pages.specs.way.Asks.{StockAsks, CarveAsks, ClearAsks, NewAsks};
+ghost use Rattle.pages.specs.way.Pre.{StockPre, CarvePre, ClearPre, NewPre};
 use crate::runs::name_run;
 use classes::Shape;
 use words::Word;
 
 // Blocks 0 to k - 1 lie on the page's stack, the highest on top: two a turn, which are one word.
 fn stock(meta: &mut [u32], q: u32, k: u32)
-    requires { ⌜ StockAsks (now meta) q k ⌝ }
-    ensures { λ _. ⌜ now (meta .exit) ≡ push (now (meta .entry)) q 0 (downs 0 k) ⌝ }
+    requires { ⌜ StockPre (now meta) q k ⌝ }
+    ensures { λ _. ⌜ now (meta .exit) ≡ push (now (meta .entry)) q 0 (descending 0 k) ⌝ }
 {
     let mut x = 0;
     while 2 * x + 1 < k {
@@ -44,7 +44,7 @@ fn digit(v: bool) -> u32
 
 // A small page's blocks will be carved as they are wanted; a span's are all free.
 pub fn carve_anew(meta: &mut [u32], shape: Shape, q: u32, virgin: bool)
-    requires { ⌜ CarveAsks (now meta) shape q ⌝ }
+    requires { ⌜ CarvePre (now meta) shape q ⌝ }
     ensures { λ _. ⌜ now (meta .exit) ≡ carveAnew (now (meta .entry)) shape q virgin ⌝ }
 {
     let k = stocked(shape);
@@ -56,7 +56,7 @@ pub fn carve_anew(meta: &mut [u32], shape: Shape, q: u32, virgin: bool)
 
 // Blocks 32 j to 32 j + 31 are not out, and not marked.
 fn clear_word(meta: &mut [u32], q: u32, j: u32)
-    requires { ⌜ ClearAsks (now meta) q (j + 1) ⌝ }
+    requires { ⌜ ClearPre (now meta) q (j + 1) ⌝ }
     ensures { λ _. ⌜ now (meta .exit) ≡ put (clearOut (now (meta .entry)) q (32 * j) 32) (mark q j) 0 ⌝ }
 {
     fields::out::clear_word(meta, q, j);
@@ -65,7 +65,7 @@ fn clear_word(meta: &mut [u32], q: u32, j: u32)
 
 // The blocks of the first k words of out bits are not out, and not marked.
 pub fn clear_bits(meta: &mut [u32], q: u32, k: u32)
-    requires { ⌜ ClearAsks (now meta) q k ⌝ }
+    requires { ⌜ ClearPre (now meta) q k ⌝ }
     ensures { λ _. ⌜ now (meta .exit) ≡ bareBits (now (meta .entry)) q k ⌝ }
 {
     let mut j = 0;
@@ -76,7 +76,7 @@ pub fn clear_bits(meta: &mut [u32], q: u32, k: u32)
 }
 
 pub fn new_run(meta: &mut [u32], shape: Shape, q: u32)
-    requires { ⌜ NewAsks (now meta) shape q ⌝ }
+    requires { ⌜ NewPre (now meta) shape q ⌝ }
     ensures { λ _. ⌜ now (meta .exit) ≡ newRun (now (meta .entry)) shape q ⌝ }
 {
     name_run(meta, q, shape.pages);

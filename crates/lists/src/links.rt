@@ -5,7 +5,7 @@ ghost use lib.ListN.{length};
 ghost use Rattle.fields.specs.Field.{prev, words};
 ghost use Rattle.fields.specs.Outcome.{putAt};
 ghost use Rattle.pages.specs.Links.{pointNext, linked, cutOut, link, unlink};
-ghost use Rattle.pages.specs.way.Asks.{LinkAsks, CutAsks, UnlinkAsks};
+ghost use Rattle.pages.specs.way.Pre.{LinkPre, CutPre, UnlinkPre};
 
 // PREV of the page that a code stands for, where it stands for one.
 fn set_prev_at(meta: &mut [u32], code: u32, v: u32)
@@ -32,7 +32,7 @@ fn point_next(meta: &mut [u32], c: u32, code: u32, v: u32)
 
 // The page heads the list; LISTED is the caller's.
 fn enter_head(meta: &mut [u32], c: u32, q: u32)
-    requires { ⌜ LinkAsks (now meta) c q ⌝ }
+    requires { ⌜ LinkPre (now meta) c q ⌝ }
     ensures { λ _. ⌜ now (meta .exit) ≡ linked (now (meta .entry)) c q ⌝ }
 {
     let head = fields::class::partial(meta, c);
@@ -43,7 +43,7 @@ fn enter_head(meta: &mut [u32], c: u32, q: u32)
 }
 
 pub fn link_partial(meta: &mut [u32], c: u32, q: u32)
-    requires { ⌜ LinkAsks (now meta) c q ⌝ }
+    requires { ⌜ LinkPre (now meta) c q ⌝ }
     ensures { λ _. ⌜ now (meta .exit) ≡ link (now (meta .entry)) c q ⌝ }
 {
     enter_head(meta, c, q);
@@ -52,7 +52,7 @@ pub fn link_partial(meta: &mut [u32], c: u32, q: u32)
 
 // Page q, whose neighbours' codes are `next` and `prev`, is cut out.
 fn cut_out(meta: &mut [u32], c: u32, q: u32, next: u32, prev: u32)
-    requires { ⌜ CutAsks (now meta) c q next prev ⌝ }
+    requires { ⌜ CutPre (now meta) c q next prev ⌝ }
     ensures { λ _. ⌜ now (meta .exit) ≡ cutOut (now (meta .entry)) c q next prev ⌝ }
 {
     point_next(meta, c, prev, next);
@@ -62,7 +62,7 @@ fn cut_out(meta: &mut [u32], c: u32, q: u32, next: u32, prev: u32)
 }
 
 pub fn unlink_partial(meta: &mut [u32], c: u32, q: u32)
-    requires { ⌜ UnlinkAsks (now meta) c q ⌝ }
+    requires { ⌜ UnlinkPre (now meta) c q ⌝ }
     ensures { λ _. ⌜ now (meta .exit) ≡ unlink (now (meta .entry)) c q ⌝ }
 {
     let next = fields::page::next(meta, q);

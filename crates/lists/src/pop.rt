@@ -7,9 +7,9 @@ ghost use Prim.Native.Nat.{_+_, _-_, _*_, _≤_};
 ghost use lib.Dec.{eqb};
 ghost use lib.ListN.{length};
 ghost use Rattle.fields.specs.Field.{slot, words, get};
-ghost use Rattle.pages.specs.Stack.{tops, downs, pageSlots, Gave};
-ghost use Rattle.pages.specs.way.Asks.{GiveAsks, PopAsks};
-ghost use Rattle.lists.specs.way.Stretch.{StretchAsks};
+ghost use Rattle.pages.specs.Stack.{topEntries, descending, pageSlots, HandedOut};
+ghost use Rattle.pages.specs.way.Pre.{GivePre, PopPre};
+ghost use Rattle.lists.specs.way.Stretch.{StretchPre};
 use crate::batch::carve_blocks;
 use crate::batch::raise_blocks;
 use crate::blocks::word_of;
@@ -17,18 +17,18 @@ use classes::Shape;
 
 // Block i is out, and its word stands in the list below `at`.
 fn give_block(meta: &mut [u32], shape: Shape, q: u32, list: &mut [u64], at: u32, i: u32)
-    requires { ⌜ GiveAsks (now meta) shape q (now list) at i ⌝ }
-    ensures { λ _. ⌜ Gave (now (meta .entry)) shape q (now (list .entry)) at (i ∷ []) (now (meta .exit)) (now (list .exit)) ⌝ }
+    requires { ⌜ GivePre (now meta) shape q (now list) at i ⌝ }
+    ensures { λ _. ⌜ HandedOut (now (meta .entry)) shape q (now (list .entry)) at (i ∷ []) (now (meta .exit)) (now (list .exit)) ⌝ }
 {
     list[(at - 1) as usize] = word_of(shape, q, i);
-    fields::out::mark(meta, q, i);
+    fields::out::set_out(meta, q, i);
 }
 
 // No block from a stack of `top`, or one.
 fn pop_end(meta: &mut [u32], shape: Shape, q: u32, list: &mut [u64], at: u32, top: u32, k: u32)
-    requires { ⌜ PopAsks (now meta) shape q (now list) at top k ⌝ }
+    requires { ⌜ PopPre (now meta) shape q (now list) at top k ⌝ }
     requires { ⌜ k ≤ 1 ⌝ }
-    ensures { λ _. ⌜ Gave (now (meta .entry)) shape q (now (list .entry)) at (reverse (tops (now (meta .entry)) q k top)) (now (meta .exit)) (now (list .exit)) ⌝ }
+    ensures { λ _. ⌜ HandedOut (now (meta .entry)) shape q (now (list .entry)) at (reverse (topEntries (now (meta .entry)) q k top)) (now (meta .exit)) (now (list .exit)) ⌝ }
 {
     if k != 0 {
         let i = fields::slot::entry(meta, q, top - 1);
@@ -38,8 +38,8 @@ fn pop_end(meta: &mut [u32], shape: Shape, q: u32, list: &mut [u64], at: u32, to
 
 // Two from a stack of 2 x + 2: the entries of its word x.
 fn pop_pair(meta: &mut [u32], shape: Shape, q: u32, list: &mut [u64], at: u32, x: u32)
-    requires { ⌜ PopAsks (now meta) shape q (now list) at (2 * x + 2) 2 ⌝ }
-    ensures { λ _. ⌜ Gave (now (meta .entry)) shape q (now (list .entry)) at (reverse (tops (now (meta .entry)) q 2 (2 * x + 2))) (now (meta .exit)) (now (list .exit)) ⌝ }
+    requires { ⌜ PopPre (now meta) shape q (now list) at (2 * x + 2) 2 ⌝ }
+    ensures { λ _. ⌜ HandedOut (now (meta .entry)) shape q (now (list .entry)) at (reverse (topEntries (now (meta .entry)) q 2 (2 * x + 2))) (now (meta .exit)) (now (list .exit)) ⌝ }
 {
     let high = fields::slot::entry(meta, q, 2 * x + 1);
     let low = fields::slot::entry(meta, q, 2 * x);
@@ -59,8 +59,8 @@ fn pair_is(meta: &[u32], q: u32, x: u32, low: u32, high: u32, before: bool) -> b
 
 // Whether the entries of words x to y - 1 are a and those after it, the highest on top. The loop has no other way out (docs/BACKEND.md, "Tests").
 fn rises(meta: &[u32], q: u32, x: u32, y: u32, a: u32) -> bool
-    requires { ⌜ StretchAsks (now meta) q x y a ⌝ }
-    ensures { λ r. ⌜ (r ≡ true → tops (now (meta .entry)) q (2 * y - 2 * x) (2 * y) ≡ downs a (2 * y - 2 * x)) ⌝ }
+    requires { ⌜ StretchPre (now meta) q x y a ⌝ }
+    ensures { λ r. ⌜ (r ≡ true → topEntries (now (meta .entry)) q (2 * y - 2 * x) (2 * y) ≡ descending a (2 * y - 2 * x)) ⌝ }
 {
     let mut so = true;
     let mut z = x;
@@ -75,8 +75,8 @@ fn rises(meta: &[u32], q: u32, x: u32, y: u32, a: u32) -> bool
 
 // The same with the lowest on top.
 fn falls(meta: &[u32], q: u32, x: u32, y: u32, a: u32) -> bool
-    requires { ⌜ StretchAsks (now meta) q x y a ⌝ }
-    ensures { λ r. ⌜ (r ≡ true → reverse (tops (now (meta .entry)) q (2 * y - 2 * x) (2 * y)) ≡ downs a (2 * y - 2 * x)) ⌝ }
+    requires { ⌜ StretchPre (now meta) q x y a ⌝ }
+    ensures { λ r. ⌜ (r ≡ true → reverse (topEntries (now (meta .entry)) q (2 * y - 2 * x) (2 * y)) ≡ descending a (2 * y - 2 * x)) ⌝ }
 {
     let mut so = true;
     let mut z = y;
@@ -91,8 +91,8 @@ fn falls(meta: &[u32], q: u32, x: u32, y: u32, a: u32) -> bool
 
 // The blocks of the k upper words of a stack of x words, pair by pair.
 fn pop_mixed(meta: &mut [u32], shape: Shape, q: u32, list: &mut [u64], at: u32, x: u32, k: u32)
-    requires { ⌜ PopAsks (now meta) shape q (now list) at (2 * x) (2 * k) ⌝ }
-    ensures { λ _. ⌜ Gave (now (meta .entry)) shape q (now (list .entry)) at (reverse (tops (now (meta .entry)) q (2 * k) (2 * x))) (now (meta .exit)) (now (list .exit)) ⌝ }
+    requires { ⌜ PopPre (now meta) shape q (now list) at (2 * x) (2 * k) ⌝ }
+    ensures { λ _. ⌜ HandedOut (now (meta .entry)) shape q (now (list .entry)) at (reverse (topEntries (now (meta .entry)) q (2 * k) (2 * x))) (now (meta .exit)) (now (list .exit)) ⌝ }
 {
     let mut j = 0;
     while j < k {
@@ -103,8 +103,8 @@ fn pop_mixed(meta: &mut [u32], shape: Shape, q: u32, list: &mut [u64], at: u32, 
 
 // The same; blocks that follow one another, as they mostly come back, are given at once.
 fn pop_pairs(meta: &mut [u32], shape: Shape, q: u32, list: &mut [u64], at: u32, x: u32, k: u32)
-    requires { ⌜ PopAsks (now meta) shape q (now list) at (2 * x) (2 * k) ⌝ }
-    ensures { λ _. ⌜ Gave (now (meta .entry)) shape q (now (list .entry)) at (reverse (tops (now (meta .entry)) q (2 * k) (2 * x))) (now (meta .exit)) (now (list .exit)) ⌝ }
+    requires { ⌜ PopPre (now meta) shape q (now list) at (2 * x) (2 * k) ⌝ }
+    ensures { λ _. ⌜ HandedOut (now (meta .entry)) shape q (now (list .entry)) at (reverse (topEntries (now (meta .entry)) q (2 * k) (2 * x))) (now (meta .exit)) (now (list .exit)) ⌝ }
 {
     if k == 0 {
         return;
@@ -124,9 +124,9 @@ fn pop_pairs(meta: &mut [u32], shape: Shape, q: u32, list: &mut [u64], at: u32, 
 
 // k blocks from a stack of `top`, where there is an entry.
 fn pop_some(meta: &mut [u32], shape: Shape, q: u32, list: &mut [u64], at: u32, top: u32, k: u32)
-    requires { ⌜ PopAsks (now meta) shape q (now list) at top k ⌝ }
+    requires { ⌜ PopPre (now meta) shape q (now list) at top k ⌝ }
     requires { ⌜ 1 ≤ k ⌝ }
-    ensures { λ _. ⌜ Gave (now (meta .entry)) shape q (now (list .entry)) at (reverse (tops (now (meta .entry)) q k top)) (now (meta .exit)) (now (list .exit)) ⌝ }
+    ensures { λ _. ⌜ HandedOut (now (meta .entry)) shape q (now (list .entry)) at (reverse (topEntries (now (meta .entry)) q k top)) (now (meta .exit)) (now (list .exit)) ⌝ }
 {
     let odd = top % 2;
     let pairs = (k - odd) / 2;
@@ -146,8 +146,8 @@ pub fn pop_blocks(
     top: u32,
     k: u32,
 )
-    requires { ⌜ PopAsks (now meta) shape q (now list) at top k ⌝ }
-    ensures { λ _. ⌜ Gave (now (meta .entry)) shape q (now (list .entry)) at (reverse (tops (now (meta .entry)) q k top)) (now (meta .exit)) (now (list .exit)) ⌝ }
+    requires { ⌜ PopPre (now meta) shape q (now list) at top k ⌝ }
+    ensures { λ _. ⌜ HandedOut (now (meta .entry)) shape q (now (list .entry)) at (reverse (topEntries (now (meta .entry)) q k top)) (now (meta .exit)) (now (list .exit)) ⌝ }
 {
     if k != 0 {
         pop_some(meta, shape, q, list, at, top, k);

@@ -6,15 +6,15 @@ ghost use Prim.Native.Nat.{_*_, _+_, _<_, _≤_};
 ghost use lib.ListN.{take, length};
 ghost use Rattle.facts.specs.Lists.{every};
 ghost use Rattle.pages.specs.Stack.{indexOf, isBlock, push, pushed, pageSlots};
-ghost use Rattle.pages.specs.way.Asks.{LayAsks, PushAsks};
-ghost use Rattle.lists.specs.way.Lay.{PairsAsks};
+ghost use Rattle.pages.specs.way.Pre.{PushEntriesPre, PushPre};
+ghost use Rattle.lists.specs.way.Push.{PairsPre};
 ghost use Rattle.fields.specs.Field.{page, free, get, words};
 use crate::blocks::index_of;
 use classes::Shape;
 
 // The list's first n blocks on a stack of 2 x entries, two at a time: entries 2 x and 2 x + 1 are one word.
-fn lay_pairs(meta: &mut [u32], shape: Shape, q: u32, x: u32, list: &[u64], n: usize)
-    requires { ⌜ PairsAsks (now meta) shape q x (now list) n ⌝ }
+fn push_pairs(meta: &mut [u32], shape: Shape, q: u32, x: u32, list: &[u64], n: usize)
+    requires { ⌜ PairsPre (now meta) shape q x (now list) n ⌝ }
     requires { ⌜ every (isBlock shape q) (now list) ≡ true ⌝ }
     ensures { λ _. ⌜ now (meta .exit) ≡ push (now (meta .entry)) q (2 * x) (map (indexOf shape q) (take n (now (list .entry)))) ⌝ }
 {
@@ -38,8 +38,8 @@ fn lay_pairs(meta: &mut [u32], shape: Shape, q: u32, x: u32, list: &[u64], n: us
 }
 
 // The list's blocks on a stack of `top`, the list's first on top.
-pub fn lay_blocks(meta: &mut [u32], shape: Shape, q: u32, top: u32, list: &[u64])
-    requires { ⌜ LayAsks (now meta) shape q top (now list) ⌝ }
+pub fn push_entries(meta: &mut [u32], shape: Shape, q: u32, top: u32, list: &[u64])
+    requires { ⌜ PushEntriesPre (now meta) shape q top (now list) ⌝ }
     requires { ⌜ every (isBlock shape q) (now list) ≡ true ⌝ }
     ensures { λ _. ⌜ now (meta .exit) ≡ push (now (meta .entry)) q top (map (indexOf shape q) (now (list .entry))) ⌝ }
 {
@@ -52,21 +52,21 @@ pub fn lay_blocks(meta: &mut [u32], shape: Shape, q: u32, top: u32, list: &[u64]
         return;
     }
     if top % 2 == 0 {
-        lay_pairs(meta, shape, q, top / 2, list, n);
+        push_pairs(meta, shape, q, top / 2, list, n);
         return;
     }
     fields::slot::set_entry(meta, q, top, index_of(shape, q, list[n - 1]));
-    lay_pairs(meta, shape, q, top / 2 + 1, list, n - 1);
+    push_pairs(meta, shape, q, top / 2 + 1, list, n - 1);
 }
 
 // The list's blocks before the page's free ones. Their out bits are the caller's.
 pub fn push_list(meta: &mut [u32], shape: Shape, q: u32, list: &[u64])
-    requires { ⌜ PushAsks (now meta) shape q (now list) ⌝ }
+    requires { ⌜ PushPre (now meta) shape q (now list) ⌝ }
     requires { ⌜ every (isBlock shape q) (now list) ≡ true ⌝ }
     ensures { λ _. ⌜ now (meta .exit) ≡ pushed (now (meta .entry)) q (map (indexOf shape q) (now (list .entry))) ⌝ }
 {
     let top = fields::page::free(meta, q);
-    lay_blocks(meta, shape, q, top, list);
+    push_entries(meta, shape, q, top, list);
     fields::page::set_virgin(meta, q, 0);
     fields::page::set_free(meta, q, top + list.len() as u32);
 }

@@ -1,14 +1,14 @@
 // A class's stores of pages with no block out: stacks of pages, linked by NEXT.
 ghost use mathlib.Core.Path.{_≡_};
 ghost use Rattle.fields.specs.Field.{class, get, put};
-ghost use Rattle.pages.specs.Links.{top, stored, stow, unstow, wake};
-ghost use Rattle.pages.specs.way.Asks.{RowAsks, ParkAsks, UnparkAsks, WakeAsks};
+ghost use Rattle.pages.specs.Links.{top, stored, parkRun, popStore, unparkRun};
+ghost use Rattle.pages.specs.way.Pre.{RowPre, ParkPre, PopStorePre, UnparkRunPre};
 use crate::links::link_partial;
 use pages::Park;
 
 // The code of the newest page.
 pub fn store_top(meta: &[u32], c: u32, park: Park) -> u32
-    requires { ⌜ RowAsks (now meta) c ⌝ }
+    requires { ⌜ RowPre (now meta) c ⌝ }
     ensures { λ r. ⌜ r ≡ get (now (meta .entry)) (class (top park) c) ⌝ }
 {
     match park {
@@ -18,7 +18,7 @@ pub fn store_top(meta: &[u32], c: u32, park: Park) -> u32
 }
 
 fn set_store_top(meta: &mut [u32], c: u32, park: Park, v: u32)
-    requires { ⌜ RowAsks (now meta) c ⌝ }
+    requires { ⌜ RowPre (now meta) c ⌝ }
     ensures { λ _. ⌜ now (meta .exit) ≡ put (now (meta .entry)) (class (top park) c) v ⌝ }
 {
     match park {
@@ -29,7 +29,7 @@ fn set_store_top(meta: &mut [u32], c: u32, park: Park, v: u32)
 
 // How many pages it has.
 pub fn store_count(meta: &[u32], c: u32, park: Park) -> u32
-    requires { ⌜ RowAsks (now meta) c ⌝ }
+    requires { ⌜ RowPre (now meta) c ⌝ }
     ensures { λ r. ⌜ r ≡ get (now (meta .entry)) (class (stored park) c) ⌝ }
 {
     match park {
@@ -39,7 +39,7 @@ pub fn store_count(meta: &[u32], c: u32, park: Park) -> u32
 }
 
 fn set_store_count(meta: &mut [u32], c: u32, park: Park, v: u32)
-    requires { ⌜ RowAsks (now meta) c ⌝ }
+    requires { ⌜ RowPre (now meta) c ⌝ }
     ensures { λ _. ⌜ now (meta .exit) ≡ put (now (meta .entry)) (class (stored park) c) v ⌝ }
 {
     match park {
@@ -48,9 +48,9 @@ fn set_store_count(meta: &mut [u32], c: u32, park: Park, v: u32)
     }
 }
 
-pub fn park_in(meta: &mut [u32], c: u32, park: Park, q: u32)
-    requires { ⌜ ParkAsks (now meta) c park q ⌝ }
-    ensures { λ _. ⌜ now (meta .exit) ≡ stow (now (meta .entry)) c park q ⌝ }
+pub fn park_run(meta: &mut [u32], c: u32, park: Park, q: u32)
+    requires { ⌜ ParkPre (now meta) c park q ⌝ }
+    ensures { λ _. ⌜ now (meta .exit) ≡ parkRun (now (meta .entry)) c park q ⌝ }
 {
     let head = store_top(meta, c, park);
     let count = store_count(meta, c, park);
@@ -60,9 +60,9 @@ pub fn park_in(meta: &mut [u32], c: u32, park: Park, q: u32)
 }
 
 // The newest page, q, leaves its store.
-pub fn unpark(meta: &mut [u32], c: u32, park: Park, q: u32)
-    requires { ⌜ UnparkAsks (now meta) c park q ⌝ }
-    ensures { λ _. ⌜ now (meta .exit) ≡ unstow (now (meta .entry)) c park q ⌝ }
+pub fn pop_store(meta: &mut [u32], c: u32, park: Park, q: u32)
+    requires { ⌜ PopStorePre (now meta) c park q ⌝ }
+    ensures { λ _. ⌜ now (meta .exit) ≡ popStore (now (meta .entry)) c park q ⌝ }
 {
     let next = fields::page::next(meta, q);
     let count = store_count(meta, c, park);
@@ -71,10 +71,10 @@ pub fn unpark(meta: &mut [u32], c: u32, park: Park, q: u32)
 }
 
 // The newest page of a store heads the partial list.
-pub fn wake(meta: &mut [u32], c: u32, park: Park, q: u32)
-    requires { ⌜ WakeAsks (now meta) c park q ⌝ }
-    ensures { λ _. ⌜ now (meta .exit) ≡ wake (now (meta .entry)) c park q ⌝ }
+pub fn unpark_run(meta: &mut [u32], c: u32, park: Park, q: u32)
+    requires { ⌜ UnparkRunPre (now meta) c park q ⌝ }
+    ensures { λ _. ⌜ now (meta .exit) ≡ unparkRun (now (meta .entry)) c park q ⌝ }
 {
-    unpark(meta, c, park, q);
+    pop_store(meta, c, park, q);
     link_partial(meta, c, q);
 }

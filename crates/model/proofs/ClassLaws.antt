@@ -16,12 +16,12 @@ use Rattle.model.specs.Cover.{covers, coversAll, coversRun}
 use Rattle.words.specs.Word.{pageOf}
 use Rattle.classes.specs.declared.Shape.{Shape}
 use Rattle.classes.specs.way.Sound.{Sound}
-use Rattle.model.specs.declared.Spot.{Spot}
-use Rattle.model.specs.declared.Spot.the-variants.{ToEmpty, ToCold, ToArena}
+use Rattle.model.specs.declared.Destination.{Destination}
+use Rattle.model.specs.declared.Destination.the-variants.{ToEmpty, ToCold, ToArena}
 use Rattle.model.specs.Calls.{Request, take, giveBack, giveChunks, fate, fates, refused, blocksOf, releasedBy}
 use Rattle.model.specs.Page.{Page, isMedium, carve, isOut, noneOut, reused, returned, retire}
 use Rattle.model.specs.Class.{Class, lists, Cold, Result, Ask, done, asks, serve, refuse, Filled, fillFromList, served, thawed, onRun, takeFrom}
-use Rattle.model.specs.Release.{Site, locate, Settled, spotIn, park, parkIn, markRetired, settle, outHere, repeats, onPage, siteOfFirst, releaseList}
+use Rattle.model.specs.Release.{Site, locate, Settled, destinationIn, park, parkIn, setRetired, settle, outHere, repeats, onPage, siteOfFirst, releaseList}
 use Rattle.model.specs.Chunks.{startsAt, blocksOn, chunkFits, chunkedOn, chunked, settleChunk, settleChunks, releaseChunks, answer}
 use Rattle.model.specs.Ledger.{runsWith}
 use Rattle.model.proofs.Counts.{every-count, filter-le, filter-passes, filter-keeps, each-once, distinct-count, total-append}
@@ -116,14 +116,14 @@ module _ (sh : Shape) (ok : Sound sh) (lim : Limits) where
     out : (f : Page → ℕ) → outs f (b .class) ≡ outs f s
 
   module _ (h : ℕ) (s : Class) (p : Page) (gs : GoodClass sh s) (gp : EmptyPage sh p) where
-    park-in : (t : Spot) → ParkLaw s p (parkIn sh h s p t)
+    park-in : (t : Destination) → ParkLaw s p (parkIn sh h s p t)
     park-in ToEmpty = record { good = record { partial = gs .partial; empty = (gp, gs .empty); full = gs .full }; pages = λ z. omega arith; out = λ f. omega arith }
     park-in ToCold = record { good = record { partial = gs .partial; empty = gs .empty; full = gs .full }; pages = λ z. omega arith; out = λ f. omega arith }
     park-in ToArena = record { good = record { partial = gs .partial; empty = gs .empty; full = gs .full }; pages = λ z. omega arith; out = λ f. omega arith }
 
     park-law : ParkLaw s p (park sh lim h s p)
     unfolding park
-    park-law = park-in (spotIn sh lim s)
+    park-law = park-in (destinationIn sh lim s)
 
   module _ (h : ℕ) (s : Class) (ws : List ℕ) (x : Site) (law : SiteLaw sh s x) (once : (w : ℕ) → count w ws ≤ 1) (outs : (w : ℕ) → 1 ≤ count w ws → isOut sh w (x .page) ≡ true) where
     back-good : GoodPage sh (returned ws (x .page))
@@ -153,12 +153,12 @@ module _ (sh : Shape) (ok : Sound sh) (lim : Limits) where
           out-at = λ q w. omega (arith, k .out (outFrom sh q w), law .out-rest (outFrom sh q w), none-at e q w);
         }
 
-    mark-law : (b : Settled) → SettleLaw s (x .page .first) ws b → SettleLaw s (x .page .first) ws (markRetired b)
-    mark-law b k = record { good = k .good; pages = k .pages; out = k .out; out-at = k .out-at }
+    retired-law : (b : Settled) → SettleLaw s (x .page .first) ws b → SettleLaw s (x .page .first) ws (setRetired b)
+    retired-law b k = record { good = k .good; pages = k .pages; out = k .out; out-at = k .out-at }
 
     leave : (retires : Bool) → noneOut sh (returned ws (x .page)) ≡ true
-        → SettleLaw s (x .page .first) ws (cond retires (markRetired (park sh lim h (x .without) (retire (x .page)))) (park sh lim h (x .without) (returned ws (x .page))))
-    leave true e = mark-law _ (parked (retire (x .page)) (λ z. retire-on sh z (x .page)) (retire-empty sh ok (x .page)) e)
+        → SettleLaw s (x .page .first) ws (cond retires (setRetired (park sh lim h (x .without) (retire (x .page)))) (park sh lim h (x .without) (returned ws (x .page))))
+    leave true e = retired-law _ (parked (retire (x .page)) (λ z. retire-on sh z (x .page)) (retire-empty sh ok (x .page)) e)
     leave false e = parked (returned ws (x .page)) (λ z. return-on sh z ws (x .page)) (record { good = back-good; none-out = λ w. none-out-of sh ok w (returned ws (x .page)) e }) e
 
     settle-law : (retires : Bool) → SettleLaw s (x .page .first) ws (settle sh lim h retires ws x)

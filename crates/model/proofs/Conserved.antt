@@ -18,5 +18,5 @@ module _ (size : ℕ) (rules : Rules) (xs : List Call) where
   pub one-run : (c x : ℕ) → runsWith (shapeOf c) x (heapAfter size rules xs .classes c) ≡ heldBy c (heapAfter size rules xs .holder x)
   one-run = kept size rules xs .inv .mine
 
-  pub told-direct : (x : ℕ) → directAfter (events size rules xs) x ≡ isDirect (heapAfter size rules xs .holder x)
-  told-direct = kept size rules xs .inv .directs
+  pub observed-direct : (x : ℕ) → directAfter (events size rules xs) x ≡ isDirect (heapAfter size rules xs .holder x)
+  observed-direct = kept size rules xs .inv .directs

@@ -226,8 +226,8 @@ module _ (size : ℕ) where
       (λ d. rw d (same-counts n a _ (λ x. rw d)))
 
 -- ---- one call
-abbrev Told : ℕ → ℕ → Heap → Call → Outcome → (ℕ → ℕ) → Type 0
-Told size n H x o lost = Counts size n (H .arena) (o .heap .arena) lost (commitsAt (eventOf x o)) (reusesAt H (eventOf x o))
+abbrev Observed : ℕ → ℕ → Heap → Call → Outcome → (ℕ → ℕ) → Type 0
+Observed size n H x o lost = Counts size n (H .arena) (o .heap .arena) lost (commitsAt (eventOf x o)) (reusesAt H (eventOf x o))
 
 one-of : (n : ℕ) (o : Option ℕ) → cond (isSome (firstPage (runWith n o))) 1 0 ≡ cond {A = ℕ} (isSome o) 1 0
 one-of n none = refl
@@ -266,10 +266,10 @@ module _ (size n : ℕ) (H : Heap) (es : List Entry) (f : ℕ → Bool) (l : ℕ
   abbrev Placed : (ℕ → ℕ) → Outcome → Type 0
   Placed a o = (y : ℕ) → isHeld (o .heap .holder y) + inHoles y (o .heap .arena) + above (o .heap .arena .frontier) y + (l y + a y) ≡ 1
 
-  class-told : (x : Call) (d : Named) → names x ≡ some d → Placed (callAbandons size H x (Calls.toClass d)) (route size H x (Calls.toClass d))
-      → Told size (shapeOf (d .class) .pages) H x (route size H x (Calls.toClass d)) (callAbandons size H x (Calls.toClass d))
+  class-observed : (x : Call) (d : Named) → names x ≡ some d → Placed (callAbandons size H x (Calls.toClass d)) (route size H x (Calls.toClass d))
+      → Observed size (shapeOf (d .class) .pages) H x (route size H x (Calls.toClass d)) (callAbandons size H x (Calls.toClass d))
   unfolding classCall interact finish classAbandons
-  class-told x d e one-place =
+  class-observed x d e one-place =
       let c = d .class in
       let r = d .request in
       let m = shapeOf c .pages in
@@ -284,7 +284,7 @@ module _ (size n : ℕ) (H : Heap) (es : List Entry) (f : ℕ → Bool) (l : ℕ
 
   -- the direct calls
   record Sums (x : Call) (o : Outcome) : Type 0 where
-    told : Counts size (wantedPages x + givenPages x) (H .arena) (o .heap .arena) (λ y. cond (isRefused (o .answer)) 0 (directAbandons size H x y))
+    observed : Counts size (wantedPages x + givenPages x) (H .arena) (o .heap .arena) (λ y. cond (isRefused (o .answer)) 0 (directAbandons size H x y))
         (cond (isSome (runOf (o .answer))) 1 0 + cond (isGrown (o .answer)) 1 0) (holesAt (runOf (o .answer)) (H .arena))
 
   sums-cond : (x : Call) (b : Bool) (o p : Outcome) → (b ≡ true → Sums x o) → (b ≡ false → Sums x p) → Sums x (cond b o p)
@@ -292,7 +292,7 @@ module _ (size n : ℕ) (H : Heap) (es : List Entry) (f : ℕ → Bool) (l : ℕ
   sums-cond x false o p h k = k refl
 
   direct-refused : (x : Call) (k : ℕ) → Sums x (unchanged H (Calls.refused k))
-  direct-refused x k = record { told = same-counts size _ (H .arena) _ (λ y. refl) }
+  direct-refused x k = record { observed = same-counts size _ (H .arena) _ (λ y. refl) }
 
   direct-commit : (h m : ℕ) → badRun m ≡ false → Sums (Calls.commit h m) (commitCall size H h m)
   unfolding commitCall
@@ -300,47 +300,47 @@ module _ (size n : ℕ) (H : Heap) (es : List Entry) (f : ℕ → Bool) (l : ℕ
       let g = Arenas.commit size h m (H .arena) in
       let some-pages = good-run m b in
       record {
-        told = restated size m _ (H .arena) (g .arena) _ _ _ _ _ _ (commit-counts size h m some-pages (H .arena) once (inv .bound)) (omega arith) (λ y. rw (run-answered (g .run) (g .fresh)))
+        observed = restated size m _ (H .arena) (g .arena) _ _ _ _ _ _ (commit-counts size h m some-pages (H .arena) once (inv .bound)) (omega arith) (λ y. rw (run-answered (g .run) (g .fresh)))
             (sym (run-one (g .run) (g .fresh))) (commit-old size h m some-pages (H .arena) once ∙ sym (run-holes (g .run) (g .fresh) (H .arena)));
       }
 
   direct-grow : (h q old new : ℕ) → badGrowth old new ≡ false → Sums (Calls.growFrontier h q old new) (growCall size H h q old new)
   unfolding growCall
   direct-grow h q old new b = record {
-    told = restated size (new - old) _ (H .arena) _ _ _ _ _ _ _ (grow-counts size h (q + old) (new - old) (longer old new b) (H .arena) once) (omega arith) (λ y. refl) (omega arith) refl;
+    observed = restated size (new - old) _ (H .arena) _ _ _ _ _ _ _ (grow-counts size h (q + old) (new - old) (longer old new b) (H .arena) once) (omega arith) (λ y. refl) (omega arith) refl;
   }
 
   direct-release : (h q m : ℕ) → badRun m ≡ false → not (heldDirect size H q m) ≡ false → Sums (Calls.release h q m) (releaseCall H q m)
   unfolding releaseCall heldDirect
   direct-release h q m b e =
       let fits = leb-true (q + m) size (and-left (leb (q + m) size) (every (λ k. isDirect (H .holder (q + k))) (below m)) (not-false (heldDirect size H q m) e)) in
-      record { told = restated size m _ (H .arena) _ _ _ _ _ _ _ (give-counts size m q (good-run m b) (H .arena) (covers-total m q size fits)) (omega arith) (λ y. refl) refl refl }
+      record { observed = restated size m _ (H .arena) _ _ _ _ _ _ _ (give-counts size m q (good-run m b) (H .arena) (covers-total m q size fits)) (omega arith) (λ y. refl) refl refl }
 
-  direct-told : (x : Call) → Sums x (directCall size H x)
+  direct-observed : (x : Call) → Sums x (directCall size H x)
   unfolding directCall
-  direct-told (Calls.takeBlocks c h ws) = direct-refused _ 4
-  direct-told (Calls.mediumTakeBlocks c h ws) = direct-refused _ 4
-  direct-told (Calls.releaseBlocks c h ws) = direct-refused _ 4
-  direct-told (Calls.mediumReleaseBlocks c h ws) = direct-refused _ 4
-  direct-told (Calls.releaseBinChunks c h ws gs fs) = direct-refused _ 4
-  direct-told (Calls.commit h m) = search (sums-cond, direct-refused, direct-commit)
-  direct-told (Calls.growFrontier h q old new) = search (sums-cond, direct-refused, direct-grow)
-  direct-told (Calls.release h q m) = search (sums-cond, direct-refused, direct-release)
-  direct-told (Calls.contains o m) = record { told = same-counts size _ (H .arena) _ (λ y. refl) }
-  direct-told Calls.report = record { told = same-counts size _ (H .arena) _ (λ y. refl) }
+  direct-observed (Calls.takeBlocks c h ws) = direct-refused _ 4
+  direct-observed (Calls.mediumTakeBlocks c h ws) = direct-refused _ 4
+  direct-observed (Calls.releaseBlocks c h ws) = direct-refused _ 4
+  direct-observed (Calls.mediumReleaseBlocks c h ws) = direct-refused _ 4
+  direct-observed (Calls.releaseBinChunks c h ws gs fs) = direct-refused _ 4
+  direct-observed (Calls.commit h m) = search (sums-cond, direct-refused, direct-commit)
+  direct-observed (Calls.growFrontier h q old new) = search (sums-cond, direct-refused, direct-grow)
+  direct-observed (Calls.release h q m) = search (sums-cond, direct-refused, direct-release)
+  direct-observed (Calls.contains o m) = record { observed = same-counts size _ (H .arena) _ (λ y. refl) }
+  direct-observed Calls.report = record { observed = same-counts size _ (H .arena) _ (λ y. refl) }
 
-  turned-told : (x : Call) (d : Option Named) → names x ≡ d → Told size (runLength d x) H x (unchanged H (Calls.refused 3)) (λ y. 0)
-  turned-told x none e = rw e (same-counts size _ (H .arena) _ (λ y. refl))
-  turned-told x (some d) e = rw e (same-counts size _ (H .arena) _ (λ y. refl))
+  turned-observed : (x : Call) (d : Option Named) → names x ≡ d → Observed size (runLength d x) H x (unchanged H (Calls.refused 3)) (λ y. 0)
+  turned-observed x none e = rw e (same-counts size _ (H .arena) _ (λ y. refl))
+  turned-observed x (some d) e = rw e (same-counts size _ (H .arena) _ (λ y. refl))
 
-  route-told : (x : Call) {w : Way} → Goes x w → Placed (callAbandons size H x w) (route size H x w) → Told size (runLength (names x) x) H x (route size H x w) (callAbandons size H x w)
-  route-told x (is-turned t) one-place = turned-told x (names x) refl
-  route-told x (is-straight t e) one-place = rw e (direct-told x .told)
-  route-told x (is-class d t e) one-place = subst (λ m. Told size m H x (route size H x (Calls.toClass d)) (callAbandons size H x (Calls.toClass d))) (rw e) (class-told x d e one-place)
+  route-observed : (x : Call) {w : Way} → Goes x w → Placed (callAbandons size H x w) (route size H x w) → Observed size (runLength (names x) x) H x (route size H x w) (callAbandons size H x w)
+  route-observed x (is-turned t) one-place = turned-observed x (names x) refl
+  route-observed x (is-straight t e) one-place = rw e (direct-observed x .observed)
+  route-observed x (is-class d t e) one-place = subst (λ m. Observed size m H x (route size H x (Calls.toClass d)) (callAbandons size H x (Calls.toClass d))) (rw e) (class-observed x d e one-place)
 
-  step-told : (x : Call) → Told size (runLength (names x) x) H x (step size H x) (callAbandons size H x (wayOf x))
+  step-observed : (x : Call) → Observed size (runLength (names x) x) H x (step size H x) (callAbandons size H x (wayOf x))
   unfolding step
-  step-told x = route-told x (goes x) (route-inv size n H es f l inv x (goes x) .one)
+  step-observed x = route-observed x (goes x) (route-inv size n H es f l inv x (goes x) .one)
 
   -- the pages that are nowhere any more are those that the call abandoned
   step-lost : (x : Call) → somewhere size H ≡ somewhere size (step size H x .heap) + total (callAbandons size H x (wayOf x)) (below size)
@@ -349,10 +349,10 @@ module _ (size n : ℕ) (H : Heap) (es : List Entry) (f : ℕ → Bool) (l : ℕ
       total-same _ (λ y. isHeld (step size H x .heap .holder y) + inHoles y (step size H x .heap .arena) + above (step size H x .heap .arena .frontier) y + callAbandons size H x (wayOf x) y) (below size) (λ y. omega (arith, inv .one y, k .one y))
       ∙ total-plus (λ y. isHeld (step size H x .heap .holder y) + inHoles y (step size H x .heap .arena) + above (step size H x .heap .arena .frontier) y) (callAbandons size H x (wayOf x)) (below size)
 
-  step-many : (x : Call) → abandonedAt size H x ≡ step-told x .many
+  step-many : (x : Call) → abandonedAt size H x ≡ step-observed x .many
   step-many x =
       let m = runLength (names x) x in
-      let k = step-told x in
+      let k = step-observed x in
       let lost : somewhere size H - somewhere size (step size H x .heap) ≡ k .many * m = omega (arith, step-lost x, k .pages) in
       by-cases (leb 1 m)
       (λ t. div-eq-of-eq-mul-left (leb-true 1 m t) lost)
@@ -372,7 +372,7 @@ counted-from : (size n : ℕ) (H : Heap) (es : List Entry) (f : ℕ → Bool) (l
     → Stands (heapFrom size H xs) (c + total commitsAt (eventsFrom size H xs)) (r + reusesFrom size H xs) (a + abandonedRuns size H xs)
 counted-from size n H es f l inv c r a s [] = record { commits = omega (arith, s .commits); reuses = omega (arith, s .reuses); abandoned = omega (arith, s .abandoned) }
 counted-from size n H es f l inv c r a s (x ∷ xs) =
-    let k = step-told size n H es f l inv x in
+    let k = step-observed size n H es f l inv x in
     let t = counted-from size (suc n) (step size H x .heap) _ _ _ (step-inv size n H es f l inv x) _ _ _
     (record { commits = k .commits c (s .commits); reuses = k .reuses r (s .reuses); abandoned = k .abandoned a (s .abandoned) }) xs in
     record { commits = omega (arith, t .commits); reuses = omega (arith, t .reuses); abandoned = omega (arith, t .abandoned, step-many size n H es f l inv x) }

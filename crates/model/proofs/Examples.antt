@@ -15,7 +15,7 @@ use Rattle.model.specs.HoleStore as Holes
 use Rattle.model.specs.Arena as Arenas
 use Rattle.model.specs.Page as Pages
 use Rattle.model.specs.Class as Classes
-use Rattle.model.specs.Spot as Spots
+use Rattle.model.specs.Destination as Destinations
 use Rattle.model.specs.Release as Releases
 use Rattle.model.specs.Chunks as Chunks
 use Rattle.model.specs.Cover.{covers}
@@ -26,7 +26,7 @@ use Rattle.model.specs.Order.{SameHeap}
 use Rattle.model.specs.Examples.{Example, onRuled, onBoth, threeHoles, usedLonger, onFullCounts, onLimits, onGive, onClass, rules, examples}
 
 pub examples-hold : map (λ (e : Example). e .found) examples ≡ map (λ (e : Example). e .expected) examples
-unfolding smallSizes mediumSizes smallShape mediumShape shapeOf firstFit sizeClass Lookups.examples Holes.leastFit Holes.cutFrom Holes.lowestThat Holes.place Holes.insert Holes.accepts Arenas.give Arenas.drawFrom Arenas.draw Arenas.grant Arenas.commitReady Arenas.commitAs Arenas.commit Arenas.grow Arenas.contains Pages.wordOf Pages.carveAs Pages.carvedWords Pages.isOut Pages.noneOut Pages.hasMore Pages.carvedNow Pages.pop Pages.returned Pages.retire Pages.reused Classes.after Classes.fillFromList Classes.served Classes.thawed Classes.onRun Classes.takeFrom Releases.find Releases.inPartial Releases.inFull Releases.locate Spots.spotOf Releases.park Releases.settle Releases.ofKind Releases.outHere Releases.repeats Releases.onPage Releases.releaseList Chunks.blocksOn Chunks.chunkFits Chunks.chunked Chunks.settleChunk Chunks.settleChunks Chunks.releaseChunks Chunks.answer Heaps.newHeap Heaps.offer Heaps.finish Heaps.interact Heaps.classCall Heaps.heldDirect Heaps.badRun Heaps.parkedPages Heaps.commitCall Heaps.growCall Heaps.releaseCall Heaps.directCall Heaps.step Calls.wayOf onRuled onBoth onFullCounts onLimits plainRules rowsIn rulesOf onGive onClass rules examples
+unfolding smallSizes mediumSizes smallShape mediumShape shapeOf firstFit sizeClass Lookups.examples Holes.leastFit Holes.cutFrom Holes.lowestThat Holes.place Holes.insert Holes.accepts Arenas.give Arenas.drawFrom Arenas.draw Arenas.grant Arenas.commitReady Arenas.commitAs Arenas.commit Arenas.grow Arenas.contains Pages.wordOf Pages.carveAs Pages.carvedWords Pages.isOut Pages.noneOut Pages.hasMore Pages.carvedNow Pages.pop Pages.returned Pages.retire Pages.reused Classes.after Classes.fillFromList Classes.served Classes.thawed Classes.onRun Classes.takeFrom Releases.find Releases.inPartial Releases.inFull Releases.locate Destinations.destinationOf Releases.park Releases.settle Releases.ofKind Releases.outHere Releases.repeats Releases.onPage Releases.releaseList Chunks.blocksOn Chunks.chunkFits Chunks.chunked Chunks.settleChunk Chunks.settleChunks Chunks.releaseChunks Chunks.answer Heaps.newHeap Heaps.offer Heaps.finish Heaps.interact Heaps.classCall Heaps.heldDirect Heaps.badRun Heaps.parkedPages Heaps.commitCall Heaps.growCall Heaps.releaseCall Heaps.directCall Heaps.step Calls.wayOf onRuled onBoth onFullCounts onLimits plainRules rowsIn rulesOf onGive onClass rules examples
 examples-hold = refl
 
 -- page x, with tests that it is in none of three holes: the first one taken and given back leaves it to whom it was

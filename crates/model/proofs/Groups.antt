@@ -11,12 +11,12 @@ use Rattle.facts.proofs.Bools.{by-cases}
 use Rattle.words.specs.Word.{pageOf}
 use Rattle.classes.specs.declared.Shape.{Shape}
 use Rattle.rules.specs.declared.Limits.{Limits}
-use Rattle.model.specs.declared.Spot.{Spot}
-use Rattle.model.specs.declared.Spot.the-variants.{ToEmpty, ToCold, ToArena}
+use Rattle.model.specs.declared.Destination.{Destination}
+use Rattle.model.specs.declared.Destination.the-variants.{ToEmpty, ToCold, ToArena}
 use Rattle.model.specs.Calls as Calls
 use Rattle.model.specs.Page.{Page, isMedium, noneOut, returned, retire}
 use Rattle.model.specs.Class.{Class, Result, Ask, done, serve, refuse}
-use Rattle.model.specs.Release.{Site, Found, Settled, find, inPartial, inFull, orElse, mapFound, locate, parkIn, spotIn, park, markRetired, settle}
+use Rattle.model.specs.Release.{Site, Found, Settled, find, inPartial, inFull, orElse, mapFound, locate, parkIn, destinationIn, park, setRetired, settle}
 use Rattle.model.specs.Chunks.{startsAt, blocksOn, settleChunk, settleChunks, releaseChunks, answer}
 use Rattle.model.specs.Held.{fatesIn}
 use Rattle.model.specs.Groups.{isBack, wentBack, GroupsGive}
@@ -46,7 +46,7 @@ given-cond q true x y f g = f
 given-cond q false x y f g = g
 
 module _ (sh : Shape) (lim : Limits) (h : ℕ) where
-  retired-given : (s : Class) (p : Page) (t : Spot) → Given (p .first) (markRetired (parkIn sh h s p t))
+  retired-given : (s : Class) (p : Page) (t : Destination) → Given (p .first) (setRetired (parkIn sh h s p t))
   retired-given s p ToEmpty = record { given = refl }
   retired-given s p ToCold = record { given = by-cases (isMedium sh) (λ e. rw e refl) (λ e. rw e refl) }
   retired-given s p ToArena = record { given = refl }
@@ -58,7 +58,7 @@ module _ (sh : Shape) (lim : Limits) (h : ℕ) where
   unfolding settle park retire
   settle-given ws x =
       given-cond (x .page .first) (noneOut sh (returned ws (x .page))) _ _
-      (retired-given (x .without) (retire (x .page)) (spotIn sh lim (x .without)))
+      (retired-given (x .without) (retire (x .page)) (destinationIn sh lim (x .without)))
       (stay-given (x .page .first) (x .with (returned ws (x .page))))
 
   chunk-given : (s : Class) (ws : List ℕ) (q : ℕ) (o : Option Site) → Passing (startsAt q) o → Given q (settleChunk sh lim h s ws o)
@@ -105,7 +105,7 @@ module _ (sh : Shape) (lim : Limits) (s : Class) (h : ℕ) (ws gs fs : List ℕ)
   answer-gives = search (gives-cond, gives-refuse, all-given) depth 9
 
 pub groups-give : (sh : Shape) (lim : Limits) (s : Class) → GroupsGive sh lim s
-groups-give sh lim s = record { gives = λ h ws gs fs g. told gs g (answer-gives sh lim s h ws gs fs) }
+groups-give sh lim s = record { gives = λ h ws gs fs g. observed gs g (answer-gives sh lim s h ws gs fs) }
   where
-    told : (gs : List ℕ) (g : Option ℕ) {q : Ask} → Gives gs q → serve q g .gives ≡ wentBack gs (fatesIn (length gs) (serve q g .answer))
-    told gs g (gives-done k) = k
+    observed : (gs : List ℕ) (g : Option ℕ) {q : Ask} → Gives gs q → serve q g .gives ≡ wentBack gs (fatesIn (length gs) (serve q g .answer))
+    observed gs g (gives-done k) = k

@@ -32,7 +32,7 @@ use Rattle.model.proofs.RunSums.{runs-sum, given-sum, grown-sum}
 use Rattle.model.proofs.ArenaLaws.{idle, commit-law, give-all-law, give-all-frontier, give-law, grow-law, grow-bound}
 use Rattle.model.proofs.Accounts.{held-le}
 use Rattle.model.proofs.ClassLaws.{Lawful, lawful-done, lawful-asks, answer-lawful}
-use Rattle.model.proofs.Fates.{runs-told}
+use Rattle.model.proofs.Fates.{runs-observed}
 use Rattle.model.proofs.HeapLaws.{Inv, run-answered, step-inv, route-inv, start}
 
 -- a class's call asks for no page itself, and gives none
@@ -105,12 +105,12 @@ module _ (size n : ℕ) (H : Heap) (es : List Entry) (f : ℕ → Bool) (l : ℕ
       let went : total (coversAll m vs) (below size) ≡ length vs * m = runs-sum size (g .arena .frontier) (s .bound) (λ v. v) m vs (λ y. omega (arith, one y, give-all-law m y vs (g .arena), top)) in
       let sums = total-balance (λ y. isHeld (H .holder y)) (λ y. isHeld (route size H x (Calls.toClass d) .heap .holder y)) (coversRun m (g .run)) (coversAll m vs) (below size)
       (λ y. omega (arith, one y, give-all-law m y vs (g .arena), s .pages y, inv .one y)) in
-      let told = runs-told (shapeOf c) (H .rules c) (H .classes c) r (g .run) in
+      let observed = runs-observed (shapeOf c) (H .rules c) (H .classes c) r (g .run) in
       let a = serve q (g .run) .answer in
       let hands = class-hands x d e in
       let gain : directGains x a ≡ 0 = rw (hands .0) (cond-none (isSome (runOf a) || isGrown a)) in
       let loss : directLosses x a ≡ 0 = rw (hands .1) (cond-none (isRefused a)) in
-      let runs : classLosses (names x) a ≡ length vs * m = rw (e, told) in
+      let runs : classLosses (names x) a ≡ length vs * m = rw (e, observed) in
       omega (arith, sums, went, s .sum, gain, loss, runs)
 
   -- the direct calls

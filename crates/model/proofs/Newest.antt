@@ -76,9 +76,9 @@ abbrev pub nextAll : List ℕ → (ℕ → ℕ → Bool) → ℕ → ℕ → Boo
 nextAll [] o = o
 nextAll (g ∷ gs) o = nextAll gs (nextAt (pageOf g) o)
 
-pub all-told : (gs : List ℕ) (o : ℕ → ℕ → Bool) (i j : ℕ) → nextAll gs o i j ≡ true → (behind i j gs ≡ true) ⊎ ((o i j ≡ true) × (elem j (map pageOf gs) ≡ false))
-all-told [] o i j e = inr (e, refl)
-all-told (g ∷ gs) o i j e = elim (all-told gs (nextAt (pageOf g) o) i j e) [
+pub all-observed : (gs : List ℕ) (o : ℕ → ℕ → Bool) (i j : ℕ) → nextAll gs o i j ≡ true → (behind i j gs ≡ true) ⊎ ((o i j ≡ true) × (elem j (map pageOf gs) ≡ false))
+all-observed [] o i j e = inr (e, refl)
+all-observed (g ∷ gs) o i j e = elim (all-observed gs (nextAt (pageOf g) o) i j e) [
   | inl b ↦ inl (or-right (eqb i (pageOf g) && not (elem j (map pageOf gs))) (behind i j gs) b)
   | inr k ↦ here k
 ]

@@ -27,10 +27,10 @@ use Rattle.model.proofs.Counts.{elem-count, count-in}
 use Rattle.model.proofs.Pages.{outOf, on, beginsOn, out-on, words-below, words-once, words-join, GoodPage}
 use Rattle.model.proofs.Sites.{outCount, Once, GoodClass, here-out, out-here}
 use Rattle.model.proofs.Weights.{weigh}
-use Rattle.model.proofs.RunsTold.{each, clean, total-le, block-on, at-le}
-use Rattle.model.proofs.Since.{sinceFrom, told, untold}
+use Rattle.model.proofs.RunsObserved.{each, clean, total-le, block-on, at-le}
+use Rattle.model.proofs.Since.{sinceFrom, observed, untold}
 use Rattle.model.proofs.HeapLaws.{kept}
-use Rattle.model.proofs.RunHistories.{inv-once, runs-told}
+use Rattle.model.proofs.RunHistories.{inv-once, runs-observed}
 use Rattle.model.proofs.Yields.{after-listed}
 use Rattle.model.proofs.Outs as Blocks
 
@@ -181,25 +181,25 @@ module _ (size : ℕ) (rules : Rules) (xs : List Call) (c : ℕ) where
   once = let k = kept size rules xs in inv-once size (k .number) _ _ _ _ (k .inv) c
 
   pub run-counted : (q : ℕ) → HasRun c q vs → weigh (shapeOf c) q each class ≡ 1
-  run-counted q h = runs-told size rules xs c q .runs ∙ ap (λ b. cond b 1 0) (told (gets c q) (yieldsUp c q) vs h)
+  run-counted q h = runs-observed size rules xs c q .runs ∙ ap (λ b. cond b 1 0) (observed (gets c q) (yieldsUp c q) vs h)
 
   pub counted-run : (q : ℕ) → 1 ≤ weigh (shapeOf c) q each class → HasRun c q vs
   counted-run q n =
       by-cases (sinceFrom (gets c q) (yieldsUp c q) false vs) (untold (gets c q) (yieldsUp c q) vs)
-      (λ e. absurd (omega (arith, runs-told size rules xs c q .runs, ap {B = ℕ} (λ b. cond b 1 0) e)))
+      (λ e. absurd (omega (arith, runs-observed size rules xs c q .runs, ap {B = ℕ} (λ b. cond b 1 0) e)))
 
   pub clean-counted : (q : ℕ) → HasRun c q vs → Clean c q vs → weigh (shapeOf c) q clean class ≡ 1
   clean-counted q h b =
-      runs-told size rules xs c q .cleans
-      ∙ ap {B = ℕ} (λ t. cond (t && sinceFrom (renews c q) (touches c q) false vs) 1 0) (told (gets c q) (yieldsUp c q) vs h)
-      ∙ ap {B = ℕ} (λ t. cond t 1 0) (told (renews c q) (touches c q) vs b)
+      runs-observed size rules xs c q .cleans
+      ∙ ap {B = ℕ} (λ t. cond (t && sinceFrom (renews c q) (touches c q) false vs) 1 0) (observed (gets c q) (yieldsUp c q) vs h)
+      ∙ ap {B = ℕ} (λ t. cond t 1 0) (observed (renews c q) (touches c q) vs b)
 
   pub counted-clean : (q : ℕ) → 1 ≤ weigh (shapeOf c) q clean class → Clean c q vs
   counted-clean q n =
       let h = sinceFrom (gets c q) (yieldsUp c q) false vs in
       let b = sinceFrom (renews c q) (touches c q) false vs in
       by-cases (h && b) (λ e. untold (renews c q) (touches c q) vs (and-right h b e))
-      (λ e. absurd (omega (arith, runs-told size rules xs c q .cleans, ap {B = ℕ} (λ t. cond t 1 0) e)))
+      (λ e. absurd (omega (arith, runs-observed size rules xs c q .cleans, ap {B = ℕ} (λ t. cond t 1 0) e)))
 
   pub out-counted : (w : ℕ) → OutIn vs c w → 1 ≤ outCount (shapeOf c) w class
   out-counted w o = here-out (shapeOf c) (shape-sound c) class good w (Blocks.outs size rules xs .out c w .1 o)
@@ -217,8 +217,8 @@ module _ (size : ℕ) (rules : Rules) (xs : List Call) (c : ℕ) where
         (omega (arith, run-counted q h, ap (total (λ p. cond (startsAt q p) 1 0)) (e .partial), ap (total (λ p. cond (startsAt q p) (each (reused (shapeOf c) p .virgin)) 0)) (e .empty), ap (total (λ (k : Cold). cond (eqb (k .first) q) (each (thawed (shapeOf c) k .virgin)) 0)) (e .cold))) w m);
   }
 
-  pub spent-told : Spent vs c ↔ NoneListed class
-  spent-told = (spent-listed, listed-spent)
+  pub spent-observed : Spent vs c ↔ NoneListed class
+  spent-observed = (spent-listed, listed-spent)
 
   pub none-partial : class .partial ≡ [] → NonePartial vs c
   none-partial e = record {

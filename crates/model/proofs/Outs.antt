@@ -77,33 +77,33 @@ module _ (size : ℕ) (rules : Rules) (xs : List Call) where
   abbrev class : ℕ → Class
   class c = heapAfter size rules xs .classes c
 
-  out-told : (c w : ℕ) → outHere (shapeOf c) (class c) w ≡ true → OutIn (events size rules xs) c w
-  out-told c w e =
+  out-observed : (c w : ℕ) → outHere (shapeOf c) (class c) w ≡ true → OutIn (events size rules xs) c w
+  out-observed c w e =
       let k = kept size rules xs in
       let o = here-out (shapeOf c) (shape-sound c) (class c) (k .inv .good c) w e in
       let r = counted c w (liveFrom 0 [] (events size rules xs)) (omega (arith, k .inv .outs c w)) in
       record { entry = r .entry; live = in-live (r .entry) (events size rules xs) (r .member); class = r .of-class; word = r .of-word }
 
-  told-out : (c w : ℕ) → OutIn (events size rules xs) c w → outHere (shapeOf c) (class c) w ≡ true
-  told-out c w o =
+  observed-out : (c w : ℕ) → OutIn (events size rules xs) c w → outHere (shapeOf c) (class c) w ≡ true
+  observed-out c w o =
       let k = kept size rules xs in
       let e = o .entry in
       let m = in-total (is c w) e (liveFrom 0 [] (events size rules xs)) (live-in 0 e [] (events size rules xs) (o .live)) in
       let one : is c w e ≡ 1 = rw (← o .class, ← o .word) (is-self e) in
       out-here (shapeOf c) (shape-sound c) (class c) (k .inv .good c) w (omega (arith, k .inv .outs c w))
 
-  release-told : (x : Call) (d : Named) → names x ≡ some d → isRefused (step size (heapAfter size rules xs) x .answer) ≡ false → AllOut (events size rules xs) (d .class) (listOf (d .request))
+  release-observed : (x : Call) (d : Named) → names x ≡ some d → isRefused (step size (heapAfter size rules xs) x .answer) ≡ false → AllOut (events size rules xs) (d .class) (listOf (d .request))
   unfolding step wayOf classCall interact finish
-  release-told x d e u =
+  release-observed x d e u =
       by-cases (badHost (hostIn x)) (λ h. absurd (true≢false (rw h at u))) λ h.
       let c = d .class in
       let ws = listOf (d .request) in
       let q = answer (shapeOf c) (heapAfter size rules xs .rules c) (class c) (d .request) in
       let t = tested (shapeOf c) (heapAfter size rules xs .rules c) (class c) (offer size (hostOf (d .request)) (heapAfter size rules xs .arena) q .run) (d .request) (rw (h, e) at u) in
       record {
-        out = λ w m. out-told c w (every-count (outHere (shapeOf c) (class c)) w ws (t .out) (elem-count w ws m));
+        out = λ w m. out-observed c w (every-count (outHere (shapeOf c) (class c)) w ws (t .out) (elem-count w ws m));
         once = t .once;
       }
 
   pub outs : Outs size rules xs
-  outs = record { out = λ c w. (out-told c w, told-out c w); released = release-told }
+  outs = record { out = λ c w. (out-observed c w, observed-out c w); released = release-observed }

@@ -27,7 +27,7 @@ use Rattle.model.proofs.Sites.{Once, GoodClass}
 use Rattle.model.proofs.HeapLaws.{Inv, at-class, step-inv, start}
 use Rattle.model.proofs.Yields.{AllListed, route-listed}
 use Rattle.model.proofs.Since.{sinceNext, sinceFrom}
-use Rattle.model.proofs.RunsTold.{Counted, and-yes}
+use Rattle.model.proofs.RunsObserved.{Counted, and-yes}
 use Rattle.model.proofs.RunRequests.{gotAt, Follow, Follows, follows-done, follows-asks, answer-follows, unfated}
 
 -- every class, every page: does the class have a run there, is it clean
@@ -99,9 +99,9 @@ module _ (size : ℕ) (H : Heap) (good : (c : ℕ) → GoodClass (shapeOf c) (H 
         let m = ne-eqb (d .class) c (λ p. eqb-false c (d .class) n (sym p)) in
         silent c q (H .classes c) (hs c q) (bs c q) now (rw (e, m)) (rw (e, m)) (rw (e, m)) (rw (e, m)) (k .counted c q)
 
-  route-told : (x : Call) {w : Way} → Goes x w → AllOnce (route size H x w .heap) → RunsAre (route size H x w .heap) (hasAfter (eventOf x (route size H x w)) hs) (cleanAfter (eventOf x (route size H x w)) bs)
+  route-observed : (x : Call) {w : Way} → Goes x w → AllOnce (route size H x w .heap) → RunsAre (route size H x w .heap) (hasAfter (eventOf x (route size H x w)) hs) (cleanAfter (eventOf x (route size H x w)) bs)
   unfolding classCall interact finish
-  route-told x (is-turned t) once = record {
+  route-observed x (is-turned t) once = record {
     counted = λ c q.
         silent c q (H .classes c) (hs c q) (bs c q) (eventOf x (route size H x Calls.turned)) (and-no (isOf c (names x)))
         (refused-named c (fated wentBack (shapeOf c) q) (names x) 3 (λ r. unfated (shapeOf c) q wentBack r 3))
@@ -109,27 +109,27 @@ module _ (size : ℕ) (H : Heap) (good : (c : ℕ) → GoodClass (shapeOf c) (H 
         (refused-named c (λ r z. hasBlock (shapeOf c) q (Calls.releasedBy r z)) (names x) 3 (untouched c q 3))
         (k .counted c q);
   }
-  route-told x (is-straight t e) once = record {
+  route-observed x (is-straight t e) once = record {
     counted = λ c q.
         rw (direct-keeps size H x .kept)
         (silent c q (H .classes c) (hs c q) (bs c q) (eventOf x (directCall size H x)) (rw e) (rw e) (rw e) (rw e) (k .counted c q));
   }
-  route-told x (is-class d t e) once = record {
+  route-observed x (is-class d t e) once = record {
     counted = λ c q. at-class (λ j s. Counted (shapeOf j) (shape-sound j) q s (hasAfter (now x d e once) hs j q) (cleanAfter (now x d e once) bs j q)) (H .classes) (d .class) _ (own x d e once q) (λ j n. others x d e once j q n) c;
   }
 
-told-from : (size n : ℕ) (H : Heap) (es : List Entry) (f : ℕ → Bool) (l : ℕ → ℕ) → Inv size n H es f l → AllListed H → (hs bs : Tellings) → RunsAre H hs bs → (xs : List Call)
+observed-from : (size n : ℕ) (H : Heap) (es : List Entry) (f : ℕ → Bool) (l : ℕ → ℕ) → Inv size n H es f l → AllListed H → (hs bs : Tellings) → RunsAre H hs bs → (xs : List Call)
     → RunsAre (heapFrom size H xs) (λ c q. sinceFrom (gets c q) (yieldsUp c q) (hs c q) (eventsFrom size H xs)) (λ c q. sinceFrom (renews c q) (touches c q) (bs c q) (eventsFrom size H xs))
 unfolding step
-told-from size n H es f l inv y hs bs k [] = k
-told-from size n H es f l inv y hs bs k (x ∷ xs) =
+observed-from size n H es f l inv y hs bs k [] = k
+observed-from size n H es f l inv y hs bs k (x ∷ xs) =
     let i = step-inv size n H es f l inv x in
-    told-from size (suc n) (step size H x .heap) _ _ _ i (route-listed size H y x (wayOf x)) _ _
-    (route-told size H (inv .good) (inv-once size n H es f l inv) y hs bs k x (goes x) (inv-once size (suc n) (step size H x .heap) _ _ _ i)) xs
+    observed-from size (suc n) (step size H x .heap) _ _ _ i (route-listed size H y x (wayOf x)) _ _
+    (route-observed size H (inv .good) (inv-once size n H es f l inv) y hs bs k x (goes x) (inv-once size (suc n) (step size H x .heap) _ _ _ i)) xs
 
-pub runs-told : (size : ℕ) (rules : Rules) (xs : List Call) (c q : ℕ)
+pub runs-observed : (size : ℕ) (rules : Rules) (xs : List Call) (c q : ℕ)
     → Counted (shapeOf c) (shape-sound c) q (heapAfter size rules xs .classes c) (sinceFrom (gets c q) (yieldsUp c q) false (events size rules xs)) (sinceFrom (renews c q) (touches c q) false (events size rules xs))
 unfolding newHeap
-runs-told size rules xs c q =
-    told-from size 0 (newHeap rules) [] (λ x. false) (λ x. 0) (start size rules) (λ c. record { partial = tt; empty = tt; full = tt })
+runs-observed size rules xs c q =
+    observed-from size 0 (newHeap rules) [] (λ x. false) (λ x. 0) (start size rules) (λ c. record { partial = tt; empty = tt; full = tt })
     (λ c q. false) (λ c q. false) (record { counted = λ c q. record { runs = refl; cleans = refl } }) xs .counted c q

@@ -27,7 +27,7 @@ use Rattle.model.specs.Offered.{blocksAt, hasBlock, wentCold, wentBack, 
 use Rattle.model.proofs.Counts.{elem-count, count-in, every-count, filter-le, filter-passes}
 use Rattle.model.proofs.Sites.{Once, GoodClass, SiteLaw, SiteLaws, locate-law, Tells, locate-tells}
 use Rattle.model.proofs.Weights.{weigh, newWeight, take-weight, SiteWeight, SiteWeights, site-weight, leftOver, Weighs, settle-weighs}
-use Rattle.model.proofs.RunsTold.{each, clean, and-yes, any-passing, passing-any, block-of, one-run, weigh-once, weigh-parts, Counted, Back, apart, met, counted-back}
+use Rattle.model.proofs.RunsObserved.{each, clean, and-yes, any-passing, passing-any, block-of, one-run, weigh-once, weigh-parts, Counted, Back, apart, met, counted-back}
 use Rattle.model.proofs.Fates.{chunks-fated}
 use Rattle.model.proofs.Yields as Yields
 

@@ -44,8 +44,8 @@ module _ (t u : Event → Bool) where
     | inr s ↦ inr (inr s)
   ]
 
-  pub told : (vs : List Event) → Since t u vs → sinceFrom false vs ≡ true
-  told vs s = since-holds false vs s
+  pub observed : (vs : List Event) → Since t u vs → sinceFrom false vs ≡ true
+  observed vs s = since-holds false vs s
 
   pub untold : (vs : List Event) → sinceFrom false vs ≡ true → Since t u vs
   untold vs e = elim (holds-since false vs e) [

@@ -35,13 +35,13 @@ use Rattle.model.proofs.Pages.{outOf, on, beginsOn, out-on, out-is, Goo
 use Rattle.model.proofs.Sites.{outCount, Once, GoodClass}
 use Rattle.model.proofs.Update.{update-same}
 use Rattle.model.proofs.Weights.{pageWeight, weigh, served-weight}
-use Rattle.model.proofs.RunsTold.{each, total-le, block-of, block-on, at-le, two-runs}
-use Rattle.model.proofs.Since.{sinceFrom, told, untold}
+use Rattle.model.proofs.RunsObserved.{each, total-le, block-of, block-on, at-le, two-runs}
+use Rattle.model.proofs.Since.{sinceFrom, observed, untold}
 use Rattle.model.proofs.Yields.{after-listed}
 use Rattle.model.proofs.Offers.{word-in, full-out, Spare, spare, outs-on, good, once, run-counted, counted-run, out-counted, counted-out, none-partial}
-use Rattle.model.proofs.TakesTold.{pop-block, came, one-more}
+use Rattle.model.proofs.TakesObserved.{pop-block, came, one-more}
 use Rattle.model.proofs.Newest.{firsts, coldFirsts, firsts-count, cold-count, Ordered, all-count}
-use Rattle.model.proofs.Stores.{Busy, chilled, Stands, stores-told, carve-first, thawed-first, reused-first}
+use Rattle.model.proofs.Stores.{Busy, chilled, Stands, stores-observed, carve-first, thawed-first, reused-first}
 
 module _ (sh : Shape) (ok : Sound sh) (lim : Limits) where
   -- ---- from which pages the blocks of a fill come
@@ -200,14 +200,14 @@ module _ (size : ℕ) (rules : Rules) (xs : List Call) (c : ℕ) where
   vs = events size rules xs
 
   stands : Stands (shapeOf c) s (λ q. sinceFrom (chills c q) (draws c q) false vs) (λ i j. sinceFrom (follows c i j) (touches c j) false vs)
-  stands = stores-told size rules xs c
+  stands = stores-observed size rules xs c
 
   listed : Listed (shapeOf c) s
   listed = after-listed size rules xs c
 
   -- ---- what a run is, and where it stands
   chilled-cold : (q : ℕ) → Chilled c q vs → chilled sh q (s .cold) ≡ 1
-  chilled-cold q k = stands .cold q ∙ ap (λ b. cond b 1 0) (told (chills c q) (draws c q) vs k)
+  chilled-cold q k = stands .cold q ∙ ap (λ b. cond b 1 0) (observed (chills c q) (draws c q) vs k)
 
   cold-chilled : (q : ℕ) → 1 ≤ chilled sh q (s .cold) → Chilled c q vs
   cold-chilled q n =
@@ -446,7 +446,7 @@ module _ (size : ℕ) (rules : Rules) (xs : List Call) (x : Call) (c : ℕ) (l :
       let one = one-more size (newHeap rules) xs x in
       let is = ap (λ (H : Heap). H .classes c) (one .heap) ∙ e in
       let y : pageWeight shape q each p ≡ 1 = rw (eq-eqb q q refl) in
-      subst (HasRun c q) (one .told)
+      subst (HasRun c q) (one .observed)
       (counted-run size rules (xs ++ x ∷ []) c q (omega (arith, served-weight shape q each l (shape .batch) (p ∷ []) es cs fs, ap (weigh shape q each) is)))
 
   -- the blocks of a fill from one page
@@ -471,7 +471,7 @@ module _ (size : ℕ) (rules : Rules) (xs : List Call) (x : Call) (c : ℕ) (l :
   unfolding takeFrom onRun
   turns-by (p ∷ ps) es cs fs g dp de dc a k =
       let goods = subst (All (GoodPage shape)) dp (good size rules xs c .partial) in
-      let fit = all-fit (p ∷ ps) goods (subst (All (λ p. hasMore shape p ≡ true)) dp (after-listed size rules xs c .partial)) (subst (All (Busy shape)) dp (stores-told size rules xs c .busy)) in
+      let fit = all-fit (p ∷ ps) goods (subst (All (λ p. hasMore shape p ≡ true)) dp (after-listed size rules xs c .partial)) (subst (All (Busy shape)) dp (stores-observed size rules xs c .busy)) in
       let f = fillFromList shape (shape .batch) (p ∷ ps) in
       let are : blocksOf (now .answer) ≡ f .blocks = ap blocksOf a ∙ came 0 (rules c) l f es cs fs in
       let r = partial-run size rules xs c p (fit .0) (λ m. omega (arith, ap (total m) dp)) in

@@ -21,14 +21,14 @@ use Rattle.classes.specs.way.Sound.{Sound}
 use Rattle.classes.proofs.Shapes.{shape-sound}
 use Rattle.rules.specs.declared.Limits.{Limits}
 use Rattle.rules.specs.Rules.{Rules}
-use Rattle.model.specs.declared.Spot.{Spot}
-use Rattle.model.specs.declared.Spot.the-variants.{ToEmpty, ToCold, ToArena}
+use Rattle.model.specs.declared.Destination.{Destination}
+use Rattle.model.specs.declared.Destination.the-variants.{ToEmpty, ToCold, ToArena}
 use Rattle.model.specs.Calls as Calls
 use Rattle.model.specs.Calls.{Call, Answer, Named, names, Request, Way, wayOf, hostOf, blocksOf, releasedBy}
 use Rattle.model.specs.Cover.{covers}
 use Rattle.model.specs.Page.{Page, isMedium, isOut, carveAs, carve, hasMore, noneOut, pop, returned, retire, reused}
 use Rattle.model.specs.Class.{Class, lists, Cold, Result, Ask, done, asks, serve, refuse, stays, after, fillFromList, served, thawed, onRun, takeFrom}
-use Rattle.model.specs.Release.{Found, Site, Settled, find, inPartial, inFull, orElse, mapFound, locate, parkIn, spotIn, park, markRetired, settle, onPage, siteOfFirst, releaseList}
+use Rattle.model.specs.Release.{Found, Site, Settled, find, inPartial, inFull, orElse, mapFound, locate, parkIn, destinationIn, park, setRetired, settle, onPage, siteOfFirst, releaseList}
 use Rattle.model.specs.Chunks.{startsAt, blocksOn, fitsOn, chunkFits, chunked, chunkedOn, settleChunk, AllSettled, settleChunks, releaseChunks, answer}
 use Rattle.model.specs.Heap.{Heap, newHeap, offer, finish, interact, classCall, directCall, route, step}
 use Rattle.model.specs.History.{Event, eventOf, eventsFrom, events, heapFrom, heapAfter}
@@ -49,12 +49,12 @@ use Rattle.model.proofs.HeapLaws.{Inv, at-class, step-inv, start}
 use Rattle.model.proofs.Yields as Yields
 use Rattle.model.proofs.Yields.{AllListed, route-listed}
 use Rattle.model.proofs.Since.{sinceNext, sinceFrom}
-use Rattle.model.proofs.RunsTold.{each, and-yes, any-passing, passing-any, block-of, block-on, weigh-once, total-le}
+use Rattle.model.proofs.RunsObserved.{each, and-yes, any-passing, passing-any, block-of, block-on, weigh-once, total-le}
 use Rattle.model.proofs.Weights.{weigh, SiteWeight, SiteWeights, site-weight, settle-weighs}
-use Rattle.model.proofs.Newest.{firsts, coldFirsts, firsts-count, cold-count, Ordered, ordered-map, nextAt, ordered-beside, ordered-top, nextAll, all-told}
+use Rattle.model.proofs.Newest.{firsts, coldFirsts, firsts-count, cold-count, Ordered, ordered-map, nextAt, ordered-beside, ordered-top, nextAll, all-observed}
 use Rattle.model.proofs.RunRequests.{unfated}
 use Rattle.model.proofs.RunHistories.{Tellings, AllOnce, inv-once, refused-named}
-use Rattle.model.proofs.TakesTold.{pop-block, some-block, came}
+use Rattle.model.proofs.TakesObserved.{pop-block, some-block, came}
 use Rattle.model.proofs.Offers.{outs-on}
 
 covered : (q z : ℕ) → covers 1 q z ≡ 1 → q ≡ z
@@ -334,7 +334,7 @@ module _ (sh : Shape) (ok : Sound sh) (lim : Limits) (paged : isMedium sh ≡ fa
   again v = omega arith
 
   module _ (h : ℕ) where
-    park-in : (s : Class) (p : Page) (t : Spot) → Settles s p (parkIn sh h s p t)
+    park-in : (s : Class) (p : Page) (t : Destination) → Settles s p (parkIn sh h s p t)
     park-in s p ToEmpty = record {
       busy = λ k. k;
       cold = λ q. no-more (startsAt q p) (chilled sh q (s .cold));
@@ -359,10 +359,10 @@ module _ (sh : Shape) (ok : Sound sh) (lim : Limits) (paged : isMedium sh ≡ fa
 
     parked : (s : Class) (p : Page) → Settles s p (park sh lim h s p)
     unfolding park
-    parked s p = park-in s p (spotIn sh lim s)
+    parked s p = park-in s p (destinationIn sh lim s)
 
-    marked : (s : Class) (p : Page) (b : Settled) → Settles s p b → Settles s p (markRetired b)
-    marked s p b k = record { busy = k .busy; cold = λ q. rw (again (b .fate)) (k .cold q); span = λ e. rw (again (b .fate)) (k .span e); empties = k .empties; colds = k .colds }
+    retiredWeighs : (s : Class) (p : Page) (b : Settled) → Settles s p b → Settles s p (setRetired b)
+    retiredWeighs s p b k = record { busy = k .busy; cold = λ q. rw (again (b .fate)) (k .cold q); span = λ e. rw (again (b .fate)) (k .span e); empties = k .empties; colds = k .colds }
 
     module _ (s : Class) (x : Site) (k : Beside s x) where
       parked-at : (p : Page) → p .first ≡ x .page .first → Settles s (x .page) (park sh lim h (x .without) p)
@@ -382,9 +382,9 @@ module _ (sh : Shape) (ok : Sound sh) (lim : Limits) (paged : isMedium sh ≡ fa
                 subst (λ r. Ordered (nextAt r o) (coldFirsts (park sh lim h (x .without) p .class .cold))) same (y .colds z′ o i′);
           }
 
-      leaves : (retires : Bool) (ws : List ℕ) → Settles s (x .page) (cond retires (markRetired (park sh lim h (x .without) (retire (x .page)))) (park sh lim h (x .without) (returned ws (x .page))))
+      leaves : (retires : Bool) (ws : List ℕ) → Settles s (x .page) (cond retires (setRetired (park sh lim h (x .without) (retire (x .page)))) (park sh lim h (x .without) (returned ws (x .page))))
       unfolding retire returned
-      leaves true ws = marked s (x .page) _ (parked-at (retire (x .page)) refl)
+      leaves true ws = retiredWeighs s (x .page) _ (parked-at (retire (x .page)) refl)
       leaves false ws = parked-at (returned ws (x .page)) refl
 
       settles : (retires : Bool) (ws : List ℕ) → Settles s (x .page) (settle sh lim h retires ws x)
@@ -401,9 +401,9 @@ module _ (sh : Shape) (ok : Sound sh) (lim : Limits) (paged : isMedium sh ≡ fa
           }))
 
   -- what a release makes of the telling
-  cold-told : (n m : ℕ) (t b : Bool) → m ≤ 1 → n ≡ cond b 1 0 → (t ≡ true → 1 ≤ m) → (t ≡ false → m ≡ n) → n ≤ m → m ≡ cond (t || b) 1 0
-  cold-told n m true b l e f g k = omega (arith, f refl)
-  cold-told n m false b l e f g k = g refl ∙ e
+  cold-observed : (n m : ℕ) (t b : Bool) → m ≤ 1 → n ≡ cond b 1 0 → (t ≡ true → 1 ≤ m) → (t ≡ false → m ≡ n) → n ≤ m → m ≡ cond (t || b) 1 0
+  cold-observed n m true b l e f g k = omega (arith, f refl)
+  cold-observed n m false b l e f g k = g refl ∙ e
 
   same-page : isMedium sh ≡ false → (w q r : ℕ) → elem w (blocksAt sh q) ≡ true → elem w (blocksAt sh r) ≡ true → q ≡ r
   same-page e w q r a b =
@@ -440,7 +440,7 @@ module _ (sh : Shape) (ok : Sound sh) (lim : Limits) (paged : isMedium sh ≡ fa
         let y = k .cold q in
         let has = any (λ v. elem v (blocksAt sh q)) ws in
         rw (and-yes t)
-        (cold-told n (chilled sh q (b .class .cold)) (has && (wentCold (b .fate) || false)) t (chilled-once (b .class) one q) e
+        (cold-observed n (chilled sh q (b .class .cold)) (has && (wentCold (b .fate) || false)) t (chilled-once (b .class) one q) e
         (λ d. let a = and-left has (wentCold (b .fate) || false) d in
         let v = any-passing (λ v. elem v (blocksAt sh q)) ws a in
         let c : wentCold (b .fate) ≡ true = or-none (wentCold (b .fate)) (and-right has (wentCold (b .fate) || false) d) in
@@ -616,7 +616,7 @@ module _ (sh : Shape) (ok : Sound sh) (lim : Limits) (paged : isMedium sh ≡ fa
         go w b (some x) law tells f = true≢false (sym (rw (out-page m (x .page) (law .page) w q tells b) at f) ∙ e)
 
     chunks-later : isMedium sh ≡ false → (ws gs : List ℕ) → every (chunked sh s gs) ws ≡ true → (o : ℕ → ℕ → Bool) (i j : ℕ) → nextAll gs o i j ≡ true → (behind i j gs || (o i j && not (hasBlock sh j ws))) ≡ true
-    chunks-later m ws gs c o i j e = elim (all-told gs o i j e) [
+    chunks-later m ws gs c o i j e = elim (all-observed gs o i j e) [
       | inl b ↦ rw b
       | inr k ↦ rw (k .0, chunks-miss m ws gs c j (k .1)) (or-right (behind i j gs) true refl)
     ]
@@ -639,7 +639,7 @@ module _ (sh : Shape) (ok : Sound sh) (lim : Limits) (paged : isMedium sh ≡ fa
             busy = y .busy (i .busy);
             cold = λ q.
                 rw (same, none-drawn q, and-yes (t q))
-                (cold-told (chilled sh q (s .cold)) (chilled sh q (b .class .cold)) (fatedIn wentCold q gs (b .fates)) (t q) (chilled-once (b .class) one q) (i .cold q)
+                (cold-observed (chilled sh q (s .cold)) (chilled sh q (b .class .cold)) (fatedIn wentCold q gs (b .fates)) (t q) (chilled-once (b .class) one q) (i .cold q)
                 (λ e. omega (arith, y .cold q, cold-in q gs (b .fates) e))
                 (λ e. omega (arith, y .cold q, cold-not q gs (b .fates) e))
                 (omega (arith, y .cold q)));
@@ -746,9 +746,9 @@ stand-from size n H es f l inv y bs os k (x ∷ xs) =
     stand-from size (suc n) (step size H x .heap) _ _ _ i (route-listed size H y x (wayOf x)) _ _
     (route-stands size H (inv .good) (inv-once size n H es f l inv) y bs os k x (goes x) (inv-once size (suc n) (step size H x .heap) _ _ _ i)) xs
 
-pub stores-told : (size : ℕ) (rules : Rules) (xs : List Call) (c : ℕ)
+pub stores-observed : (size : ℕ) (rules : Rules) (xs : List Call) (c : ℕ)
     → Stands (shapeOf c) (heapAfter size rules xs .classes c) (λ q. sinceFrom (chills c q) (draws c q) false (events size rules xs)) (λ i j. sinceFrom (follows c i j) (touches c j) false (events size rules xs))
 unfolding newHeap
-stores-told size rules xs c =
+stores-observed size rules xs c =
     stand-from size 0 (newHeap rules) [] (λ x. false) (λ x. 0) (start size rules) (λ c. record { partial = tt; empty = tt; full = tt })
     (λ c q. false) (λ c i j. false) (λ c. record { busy = tt; cold = λ q. refl; empties = λ m. tt; colds = λ m. tt }) xs c

@@ -30,7 +30,7 @@ use Rattle.model.proofs.Figured as Figures
 use Rattle.model.proofs.Alone as Alone
 use Rattle.model.proofs.Apart as Apart
 use Rattle.model.proofs.Outs as Blocks
-use Rattle.model.proofs.TakesTold as Takes
+use Rattle.model.proofs.TakesObserved as Takes
 use Rattle.model.proofs.Sources as Order
 use Rattle.model.proofs.Commute as Calls
 
@@ -73,7 +73,7 @@ pub conserved : (size : ℕ) (rules : Rules) (xs : List Call) → Conserved size
 conserved size rules xs = record {
   one = Pages.one-place size rules xs;
   classes = Pages.one-run size rules xs;
-  direct = Pages.told-direct size rules xs;
+  direct = Pages.observed-direct size rules xs;
   holeTotal = Arenas.hole-total size rules xs;
 }
 

@@ -13,11 +13,11 @@ use Rattle.facts.proofs.Bools.{by-cases, and-no}
 use Rattle.words.specs.Host.{discardZeroed}
 use Rattle.classes.specs.declared.Shape.{Shape}
 use Rattle.rules.specs.declared.Limits.{Limits}
-use Rattle.model.specs.declared.Spot.{Spot}
-use Rattle.model.specs.declared.Spot.the-variants.{ToEmpty, ToCold, ToArena}
+use Rattle.model.specs.declared.Destination.{Destination}
+use Rattle.model.specs.declared.Destination.the-variants.{ToEmpty, ToCold, ToArena}
 use Rattle.model.specs.Page.{Page, Popped, isMedium, carveAs, carve, noneOut, pop, returned, retire, reused}
 use Rattle.model.specs.Class.{Class, lists, Cold, Filled, stays, after, fillFromList, served, thawed, onRun, takeFrom, serve}
-use Rattle.model.specs.Release.{Found, Site, Settled, find, inPartial, inFull, orElse, mapFound, locate, parkIn, spotIn, park, markRetired, settle}
+use Rattle.model.specs.Release.{Found, Site, Settled, find, inPartial, inFull, orElse, mapFound, locate, parkIn, destinationIn, park, setRetired, settle}
 use Rattle.model.specs.Chunks.{startsAt}
 use Rattle.model.specs.Offered.{wentCold, wentBack}
 use Rattle.model.proofs.Counts.{total-append, total-at}
@@ -161,14 +161,14 @@ module _ (sh : Shape) (q : ℕ) where
         (λ m. rw (carve-virgin k (isMedium sh) first _) (rw m refl))
 
     module _ (s : Class) (p : Page) (used : reused sh p .virgin ≡ false) where
-      park-in : (t : Spot) → Parks s p (parkIn sh h s p t)
+      park-in : (t : Destination) → Parks s p (parkIn sh h s p t)
       park-in ToEmpty = record { parks = λ k. rw used (omega arith) }
       park-in ToCold = record { parks = λ k. rw (cold-left k (p .first)) (omega arith) }
       park-in ToArena = record { parks = λ k. by-cases (startsAt q p) (λ e. rw e (omega arith)) (λ e. rw e (omega arith)) }
 
       parked : Parks s p (park sh lim h s p)
       unfolding park
-      parked = park-in (spotIn sh lim s)
+      parked = park-in (destinationIn sh lim s)
 
     returned-used : (ws : List ℕ) (p : Page) → reused sh (returned ws p) .virgin ≡ false
     unfolding reused returned
@@ -182,8 +182,8 @@ module _ (sh : Shape) (q : ℕ) where
     pub record Weighs (s : Class) (p : Page) (b : Settled) : Type 0 where
       pub weighs : (k : Bool → ℕ) → weigh k (b .class) + pageWeight k p ≡ weigh k s + cond (startsAt q p) (leftOver sh h k (b .fate)) 0
 
-    marked : (s : Class) (p : Page) (b : Settled) → Weighs s p b → Weighs s p (markRetired b)
-    marked s p b w = record { weighs = λ k. rw (again (b .fate)) (w .weighs k) }
+    retiredWeighs : (s : Class) (p : Page) (b : Settled) → Weighs s p b → Weighs s p (setRetired b)
+    retiredWeighs s p b w = record { weighs = λ k. rw (again (b .fate)) (w .weighs k) }
       where
         again : (v : ℕ) → (4 + v) % 4 ≡ v % 4
         again v = omega arith
@@ -194,9 +194,9 @@ module _ (sh : Shape) (q : ℕ) where
         weighs = λ k. omega (arith, parked (x .without) p used .parks k, law k .rest, ap (λ n. cond (eqb n q) (leftOver sh h k (park sh lim h (x .without) p .fate)) 0) same);
       }
 
-      leaves : (retires : Bool) (ws : List ℕ) → Weighs s (x .page) (cond retires (markRetired (park sh lim h (x .without) (retire (x .page)))) (park sh lim h (x .without) (returned ws (x .page))))
+      leaves : (retires : Bool) (ws : List ℕ) → Weighs s (x .page) (cond retires (setRetired (park sh lim h (x .without) (retire (x .page)))) (park sh lim h (x .without) (returned ws (x .page))))
       unfolding retire returned
-      leaves true ws = marked s (x .page) _ (parked-weighs (retire (x .page)) (retired-used (x .page)) refl)
+      leaves true ws = retiredWeighs s (x .page) _ (parked-weighs (retire (x .page)) (retired-used (x .page)) refl)
       leaves false ws = parked-weighs (returned ws (x .page)) (returned-used ws (x .page)) refl
 
       pub settle-weighs : (retires : Bool) (ws : List ℕ) → Weighs s (x .page) (settle sh lim h retires ws x)

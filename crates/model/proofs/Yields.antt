@@ -18,13 +18,13 @@ use Rattle.classes.specs.way.Sound.{Sound}
 use Rattle.classes.proofs.Shapes.{shape-sound}
 use Rattle.rules.specs.declared.Limits.{Limits}
 use Rattle.rules.specs.Rules.{Rules}
-use Rattle.model.specs.declared.Spot.{Spot}
-use Rattle.model.specs.declared.Spot.the-variants.{ToEmpty, ToCold, ToArena}
+use Rattle.model.specs.declared.Destination.{Destination}
+use Rattle.model.specs.declared.Destination.the-variants.{ToEmpty, ToCold, ToArena}
 use Rattle.model.specs.Calls as Calls
 use Rattle.model.specs.Calls.{Call, Request, Way, turned, straight, toClass, wayOf, blocksOf, fates}
 use Rattle.model.specs.Page.{Page, isMedium, wordsFrom, carveAs, carve, isOut, noneOut, hasMore, carvedNow, pop, returned, retire, reused}
 use Rattle.model.specs.Class.{Class, lists, Cold, Result, Ask, done, asks, serve, refuse, stays, after, fillFromList, served, thawed, onRun, takeFrom}
-use Rattle.model.specs.Release.{Found, Site, Settled, find, inPartial, inFull, orElse, mapFound, locate, spotIn, park, parkIn, markRetired, settle, onPage, siteOfFirst, releaseList}
+use Rattle.model.specs.Release.{Found, Site, Settled, find, inPartial, inFull, orElse, mapFound, locate, destinationIn, park, parkIn, setRetired, settle, onPage, siteOfFirst, releaseList}
 use Rattle.model.specs.Chunks.{startsAt, blocksOn, fitsOn, chunkFits, settleChunk, settleChunks, releaseChunks, answer}
 use Rattle.model.specs.Heap.{Heap, step, route, classCall, interact, finish, newHeap}
 use Rattle.model.specs.History.{heapFrom, heapAfter}
@@ -217,14 +217,14 @@ module _ (sh : Shape) (ok : Sound sh) (lim : Limits) where
     skip : (u : Page → Bool) → firstOf u (b .class) ≡ firstOf u s
 
   module _ (h : ℕ) (s : Class) (p : Page) (y : Listed sh s) (m : Again p) where
-    park-in : (t : Spot) → Parked s (parkIn sh h s p t)
+    park-in : (t : Destination) → Parked s (parkIn sh h s p t)
     park-in ToEmpty = record { listed = record { partial = y .partial; empty = (m, y .empty); full = y .full }; skip = λ u. refl }
     park-in ToCold = record { listed = record { partial = y .partial; empty = y .empty; full = y .full }; skip = λ u. refl }
     park-in ToArena = record { listed = y; skip = λ u. refl }
 
     parked : Parked s (park sh lim h s p)
     unfolding park
-    parked = park-in (spotIn sh lim s)
+    parked = park-in (destinationIn sh lim s)
 
   -- one page's release, of at least one block: every other page is found as before
   pub record SettledLaw (s : Class) (q : ℕ) (b : Settled) : Type 0 where
@@ -244,11 +244,11 @@ module _ (sh : Shape) (ok : Sound sh) (lim : Limits) where
         let l = parked h (x .without) p (k .rest) m in
         record { listed = l .listed; skip = λ r e. l .skip (startsAt r) ∙ k .skips .without (startsAt r) e }
 
-    marked-law : (b : Settled) → SettledLaw s (x .page .first) b → SettledLaw s (x .page .first) (markRetired b)
-    marked-law b l = record { listed = l .listed; skip = l .skip }
+    set-retired-law : (b : Settled) → SettledLaw s (x .page .first) b → SettledLaw s (x .page .first) (setRetired b)
+    set-retired-law b l = record { listed = l .listed; skip = l .skip }
 
-    leave-law : (retires : Bool) → SettledLaw s (x .page .first) (cond retires (markRetired (park sh lim h (x .without) (retire (x .page)))) (park sh lim h (x .without) back))
-    leave-law true = marked-law _ (parked-law (retire (x .page)) (retire-again (x .page)))
+    leave-law : (retires : Bool) → SettledLaw s (x .page .first) (cond retires (setRetired (park sh lim h (x .without) (retire (x .page)))) (park sh lim h (x .without) back))
+    leave-law true = set-retired-law _ (parked-law (retire (x .page)) (retire-again (x .page)))
     leave-law false = parked-law back (return-again w ws (x .page))
 
     settle-law : (retires : Bool) → SettledLaw s (x .page .first) (settle sh lim h retires (w ∷ ws) x)

@@ -28,17 +28,17 @@ use Rattle.model.specs.History.{answers, heapAfter, eventsFrom}
 
 -- what is told: the class of a size; of a history, each call's answer, and the holes stored after the last; an emptied run's fate, and
 -- how many empty and cold ones its class then has; whether a given run is stored; a class's answer that needs no arena; or two of these
-pub data Told : Type 0 where
-  lookup : (class : Sized) → Told
-  history : (answers : List Answer) (holes : List Hole) → Told
-  parked : (fate empty cold : ℕ) → Told
-  stored : Bool → Told
-  answered : Answer → Told
-  both : (one other : Told) → Told
+pub data Observed : Type 0 where
+  lookup : (class : Sized) → Observed
+  history : (answers : List Answer) (holes : List Hole) → Observed
+  parked : (fate empty cold : ℕ) → Observed
+  stored : Bool → Observed
+  answered : Answer → Observed
+  both : (one other : Observed) → Observed
 
 pub record Example : Type 0 where
-  pub found : Told
-  pub expected : Told
+  pub found : Observed
+  pub expected : Observed
 
 abbrev pub ofSize : Lookups.Example → Example
 ofSize e = record { found = lookup (Lookups.answer e); expected = lookup (Lookups.expected e) }
@@ -51,7 +51,7 @@ abbrev pub onNewHeap : List Call → List Answer → List Hole → Example
 onNewHeap xs zs hs = onRuled [] xs zs hs
 
 -- after each of two histories the holes, a report, and what is answered to the same calls then, a report's three counts aside
-abbrev goneOn : List Call → List Call → Told
+abbrev goneOn : List Call → List Call → Observed
 goneOn xs zs =
     let H = heapAfter 64 plainRules xs in
     history (step 64 H report .answer ∷ map (λ v. countless (v .answer)) (eventsFrom 64 H zs)) (H .arena .store .holes)
@@ -79,16 +79,16 @@ unfoldable pub onFullCounts : List Call → List Answer → Example
 onFullCounts xs zs = record { found = history (map (λ e. e .answer) (eventsFrom 64 fullCounts xs)) []; expected = history zs [] }
 
 -- a run of class c is empty, where e empty ones and k cold ones are kept; with these limits, and with document 01's
-abbrev countParked : Settled → Told
+abbrev countParked : Settled → Observed
 countParked b = parked (b .fate) (length (b .class .empty)) (length (b .class .cold))
 
-unfoldable pub onLimits : Limits → ℕ → ℕ → ℕ → Told → Example
+unfoldable pub onLimits : Limits → ℕ → ℕ → ℕ → Observed → Example
 onLimits lim c e k t = record {
   found = countParked (park (shapeOf c) lim 15 (lists [] (replicate e (carveAs (shapeOf c) false 0 true)) (replicate k (record { first = 0; zeroed = true })) []) (carveAs (shapeOf c) false 0 true));
   expected = t;
 }
 
-abbrev pub onPark : ℕ → ℕ → ℕ → Told → Example
+abbrev pub onPark : ℕ → ℕ → ℕ → Observed → Example
 onPark c e k t = onLimits (plainRules c) c e k t
 
 -- n pages from q on are given to a store; so many holes, each of page 4, with so many pages in all

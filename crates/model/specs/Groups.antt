@@ -14,7 +14,7 @@ use Rattle.classes.specs.declared.Shape.{Shape}
 use Rattle.rules.specs.declared.Limits.{Limits}
 use Rattle.model.specs.Calls.{giveChunks}
 use Rattle.model.specs.Class.{Class, serve}
-use Rattle.model.specs.Spot.{arenaFate, retired}
+use Rattle.model.specs.Destination.{arenaFate, retired}
 use Rattle.model.specs.Chunks.{answer}
 use Rattle.model.specs.Held.{fatesIn}
 

@@ -16,7 +16,7 @@ use Rattle.model.specs.Calls as Calls
 use Rattle.model.specs.Calls.{Call, Answer, Named, names, Request, isRefused}
 use Rattle.model.specs.Page.{Page}
 use Rattle.model.specs.Class.{Class, Cold}
-use Rattle.model.specs.Spot.{arenaFate}
+use Rattle.model.specs.Destination.{arenaFate}
 use Rattle.model.specs.Heap.{Heap}
 use Rattle.model.specs.History.{Event}
 use Rattle.model.specs.Entries.{runOf, isGrown}

@@ -4,7 +4,7 @@ pub mod HoleStore
 pub mod Arena
 pub mod Page
 pub mod Class
-pub mod Spot
+pub mod Destination
 pub mod Release
 pub mod Chunks
 pub mod Heap

@@ -23,7 +23,7 @@ use Rattle.model.specs.Calls as Calls
 use Rattle.model.specs.Calls.{Answer, Named, names, Request, hostOf, blocksOf, releasedBy}
 use Rattle.model.specs.Page.{wordsFrom, isMedium}
 use Rattle.model.specs.Class.{Class}
-use Rattle.model.specs.Spot.{arenaFate}
+use Rattle.model.specs.Destination.{arenaFate}
 use Rattle.model.specs.History.{Event, isOf}
 use Rattle.model.specs.Entries.{OutIn}
 use Rattle.model.specs.Held.{fatesIn}

@@ -10,12 +10,12 @@ use Rattle.words.specs.Word.{kindOf}
 use Rattle.words.specs.Host.{discardZeroed}
 use Rattle.classes.specs.declared.Shape.{Shape}
 use Rattle.rules.specs.declared.Limits.{Limits}
-use Rattle.model.specs.declared.Spot.{Spot}
-use Rattle.model.specs.declared.Spot.the-variants.{ToEmpty, ToCold, ToArena}
+use Rattle.model.specs.declared.Destination.{Destination}
+use Rattle.model.specs.declared.Destination.the-variants.{ToEmpty, ToCold, ToArena}
 use Rattle.model.specs.Calls.{fate}
 use Rattle.model.specs.Page.{Page, isOut, noneOut, returned, retire}
 use Rattle.model.specs.Class.{Class, lists, Ask, done, refuse}
-use Rattle.model.specs.Spot.{spotOf, fateOf, keptFate, retired}
+use Rattle.model.specs.Destination.{destinationOf, fateOf, keptFate, retired}
 
 -- the first page of a list that passes a test, with what stands before and behind it
 pub record Found : Type 0 where
@@ -78,25 +78,25 @@ parkCold sh h s p = record { class = lists (s .partial) (s .empty) (record { fir
 abbrev pub letGo : Shape → Class → Page → Settled
 letGo sh s p = record { class = s; fate = fateOf sh ToArena; gives = p .first ∷ [] }
 
-abbrev pub parkIn : Shape → ℕ → Class → Page → Spot → Settled
+abbrev pub parkIn : Shape → ℕ → Class → Page → Destination → Settled
 parkIn sh h s p ToEmpty = parkEmpty sh s p
 parkIn sh h s p ToCold = parkCold sh h s p
 parkIn sh h s p ToArena = letGo sh s p
 
-abbrev pub spotIn : Shape → Limits → Class → Spot
-spotIn sh lim s = spotOf sh lim (length (s .empty)) (length (s .cold))
+abbrev pub destinationIn : Shape → Limits → Class → Destination
+destinationIn sh lim s = destinationOf sh lim (length (s .empty)) (length (s .cold))
 
 unfoldable pub park : Shape → Limits → ℕ → Class → Page → Settled
-park sh lim h s p = parkIn sh h s p (spotIn sh lim s)
+park sh lim h s p = parkIn sh h s p (destinationIn sh lim s)
 
-abbrev pub markRetired : Settled → Settled
-markRetired b = record { class = b .class; fate = retired (b .fate); gives = b .gives }
+abbrev pub setRetired : Settled → Settled
+setRetired b = record { class = b .class; fate = retired (b .fate); gives = b .gives }
 
 -- blocks come back to a page: one with none out is parked, retired first if a chunk returned them all
 unfoldable pub settle : Shape → Limits → ℕ → Bool → List ℕ → Site → Settled
 settle sh lim h retires ws x =
     cond (noneOut sh (returned ws (x .page)))
-    (cond retires (markRetired (park sh lim h (x .without) (retire (x .page)))) (park sh lim h (x .without) (returned ws (x .page))))
+    (cond retires (setRetired (park sh lim h (x .without) (retire (x .page)))) (park sh lim h (x .without) (returned ws (x .page))))
     (record { class = x .with (returned ws (x .page)); fate = keptFate; gives = [] })
 
 -- the tests of numbers 9, 15 and 10

@@ -8,7 +8,7 @@ pub struct Hole {
 }
 
 // Where a run with no block out goes: to its class's empty or cold store, or to the arena.
-pub enum Spot {
+pub enum Destination {
     ToEmpty,
     ToCold,
     ToArena,

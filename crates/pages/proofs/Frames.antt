@@ -1,5 +1,5 @@
 -- What each step on a class's pages may change: everything but the fields at which a test fails is as it was.
---     changes-linked .. changes-unstow, changes-name, changes-carve, changes-new, changes-pushed
+--     changes-linked .. changes-pop-store, changes-name, changes-carve, changes-new, changes-pushed
 --     back-free        blocks that come back leave FREE until they are counted
 use Rattle.facts.specs.Lists.{every}
 use Rattle.model.specs.Page.{isMedium}
@@ -19,11 +19,11 @@ use Rattle.fields.proofs.Clear.{changes-clear, changes-clear-marks}
 use Rattle.pages.specs.declared.Park.{Park}
 use Rattle.words.specs.Host.{digit}
 use Rattle.pages.specs.Runs.{nameRun}
-use Rattle.pages.specs.Stack.{downs, marks, pushed}
-use Rattle.pages.specs.Links.{pointNext, linked, cutOut, link, unlink, top, stored, stow, unstow}
+use Rattle.pages.specs.Stack.{descending, setOuts, pushed}
+use Rattle.pages.specs.Links.{pointNext, linked, cutOut, link, unlink, top, stored, parkRun, popStore}
 use Rattle.pages.specs.Carve.{stocked, carveAnew, outWords, bareRun, newRun}
-use Rattle.pages.proofs.Downs.{small, length-downs}
-use Rattle.pages.proofs.Marks.{marks-kept}
+use Rattle.pages.proofs.Descending.{small, length-descending}
+use Rattle.pages.proofs.SetOuts.{set-outs-kept}
 use Rattle.pages.proofs.Pushes.{push-changes}
 
 pub stocked-le : (sh : Shape) (k : ℕ) → k ≡ stocked sh → sh .capacity ≤ 4096 → k ≤ 4096
@@ -64,13 +64,13 @@ module _ (t : Field → Bool) (b : List ℕ) (c q : ℕ) (hc : ltb c 76 ≡ true
 
   -- ---- the stores
   module _ (k : Park) (ht : t (class (top k) c) ≡ true) (hk : t (class (stored k) c) ≡ true) where
-    pub changes-unstow : Changes t b (unstow b c k q)
-    unfolding unstow
-    changes-unstow = changes-put t b _ (class (stored k) c) _ hc hk (changes-put t b b (class (top k) c) _ hc ht (changes-none t b))
+    pub changes-pop-store : Changes t b (popStore b c k q)
+    unfolding popStore
+    changes-pop-store = changes-put t b _ (class (stored k) c) _ hc hk (changes-put t b b (class (top k) c) _ hc ht (changes-none t b))
 
-    pub changes-stow : t (page next q) ≡ true → Changes t b (stow b c k q)
-    unfolding stow
-    changes-stow hn =
+    pub changes-park-run : t (page next q) ≡ true → Changes t b (parkRun b c k q)
+    unfolding parkRun
+    changes-park-run hn =
         changes-put t b _ (class (stored k) c) _ hc hk
         (changes-put t b _ (class (top k) c) _ hc ht (changes-put t b b (page next q) _ refl hn (changes-none t b)))
 
@@ -92,10 +92,10 @@ module _ (t : Field → Bool) (b : List ℕ) (q : ℕ) (hf : t (page free q) ≡
   unfolding carveAnew
   changes-carve sh v hk h =
       let k = stocked sh in
-      let l : 0 + length (downs 0 k) ≤ 4096 = omega (arith, length-downs 0 k, stocked-le sh k refl h) in
+      let l : 0 + length (descending 0 k) ≤ 4096 = omega (arith, length-descending 0 k, stocked-le sh k refl h) in
       changes-put t b _ (page free q) k refl hf
       (changes-put t b _ (page carved q) k refl hk
-      (changes-put t b _ (page virgin q) (digit v) refl hv (push-changes b q 0 t hs (downs 0 k) l)))
+      (changes-put t b _ (page virgin q) (digit v) refl hv (push-changes b q 0 t hs (descending 0 k) l)))
 
 pub changes-new : (t : Field → Bool) (b : List ℕ) (sh : Shape) (q : ℕ) → sh .capacity ≤ 4096
     → t (page free q) ≡ true → t (page virgin q) ≡ true → ((i : ℕ) → t (slot q i) ≡ true) → t (page carved q) ≡ true → t (page listed q) ≡ true
@@ -112,5 +112,5 @@ changes-new t b sh q h hf hv hs hk hl ho hm hn =
     (changes-carve t (put b₃ (page listed q) 0) q hf hv hs sh true hk h)
 
 -- ---- blocks that come back
-pub back-free : (b : List ℕ) (q : ℕ) (is : List ℕ) → every small is ≡ true → get (marks b q 0 is) (page free q) ≡ get b (page free q)
-back-free b q is s = marks-kept b q 0 is s (page free q) refl refl
+pub back-free : (b : List ℕ) (q : ℕ) (is : List ℕ) → every small is ≡ true → get (setOuts b q 0 is) (page free q) ≡ get b (page free q)
+back-free b q is s = set-outs-kept b q 0 is s (page free q) refl refl

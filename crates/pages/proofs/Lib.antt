@@ -1,9 +1,9 @@
-pub mod Downs
-pub mod Tops
-pub mod Marks
+pub mod Descending
+pub mod TopEntries
+pub mod SetOuts
 pub mod Pushes
 pub mod Spliced
 pub mod Draws
 pub mod Frames
-pub mod FairLaws
+pub mod ValidLaws
 pub mod NewRun

@@ -8,7 +8,7 @@ use Rattle.fields.specs.Clear.{clearOut, clearMarks}
 use Rattle.model.specs.Page.{isMedium}
 use Rattle.words.specs.Host.{digit}
 use Rattle.pages.specs.Runs.{nameRun}
-use Rattle.pages.specs.Stack.{downs, push}
+use Rattle.pages.specs.Stack.{descending, push}
 
 -- how many blocks carving links at once: a span's all, a small page's none
 abbrev pub stocked : Shape → ℕ
@@ -16,7 +16,7 @@ stocked sh = cond (isMedium sh) (sh .capacity) 0
 
 unfoldable pub carveAnew : List ℕ → Shape → ℕ → Bool → List ℕ
 carveAnew b sh q v =
-    put (put (put (push b q 0 (downs 0 (stocked sh))) (page virgin q) (digit v)) (page carved q) (stocked sh)) (page free q) (stocked sh)
+    put (put (put (push b q 0 (descending 0 (stocked sh))) (page virgin q) (digit v)) (page carved q) (stocked sh)) (page free q) (stocked sh)
 
 -- the words of out bits that blocks below the capacity have, and of marks
 abbrev pub outWords : Shape → ℕ

@@ -2,5 +2,5 @@ pub mod Runs
 pub mod Stack
 pub mod Links
 pub mod Carve
-pub mod Fair
+pub mod Valid
 pub mod way

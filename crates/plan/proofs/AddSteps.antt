@@ -13,7 +13,7 @@ use Rattle.facts.proofs.Bools.{by-cases}
 use Rattle.facts.proofs.Lists.{every-get}
 use Rattle.classes.specs.Sizes.{maxMediumSize}
 use Rattle.plan.specs.Plan.{classCount, takesMax, classOf, takesOf}
-use Rattle.plan.specs.Code.{Fine, Sums, Zeros, Summed, AddAsks, Added}
+use Rattle.plan.specs.Code.{Fine, Sums, Zeros, Summed, AddPre, Added}
 use Rattle.plan.proofs.ClassOf.{class-known}
 
 pub record AddInv (ks ts ss : List ℕ) (i : ℕ) : Type 0 where
@@ -22,7 +22,7 @@ pub record AddInv (ks ts ss : List ℕ) (i : ℕ) : Type 0 where
   pub sums : Sums (take i ks) (take i ts) ss
   pub low : (c : ℕ) → c < classCount → getD ss c 0 ≤ i * takesMax
 
-pub added : (ss : List ℕ) (k t r : ℕ) → r ≡ t → AddAsks ss k t → Added ss k t (set ss k (getD ss k 0 + r))
+pub added : (ss : List ℕ) (k t r : ℕ) → r ≡ t → AddPre ss k t → Added ss k t (set ss k (getD ss k 0 + r))
 added ss k t r q a = rw q (record { long = length-set ss k (getD ss k 0 + t) ∙ a .long; sums = at })
   where
     at : (c : ℕ) → c < classCount → getD (set ss k (getD ss k 0 + t)) c 0 ≡ getD ss c 0 + cond (eqb k c) t 0
@@ -51,8 +51,8 @@ module _ (ks ts : List ℕ) (f : Fine ks ts) where
     entry-small : getD ts i 0 ≤ takesMax
     entry-small = leb-true (getD ts i 0) takesMax (every-get (λ t. leb t takesMax) ts i (f .small) (omega (arith, f .same)))
 
-    pub add-asks : (r : ℕ) → r ≡ class → AddAsks ss r (getD ts i 0)
-    add-asks r e = rw e (record { long = v .long; known = entry-known; fits = omega (arith, v .low class entry-known, entry-small, f .few) })
+    pub add-pre : (r : ℕ) → r ≡ class → AddPre ss r (getD ts i 0)
+    add-pre r e = rw e (record { long = v .long; known = entry-known; fits = omega (arith, v .low class entry-known, entry-small, f .few) })
 
     next : (ss′ : List ℕ) → Added ss class (getD ts i 0) ss′ → AddInv ks ts ss′ (i + 1)
     next ss′ a = record {

@@ -16,7 +16,7 @@ use Rattle.model.specs.History.{callsOf}
 use Rattle.facts.proofs.Bools.{by-cases, and-left, and-right}
 use Rattle.classes.specs.Sizes.{maxMediumSize}
 use Rattle.plan.specs.Plan.{classCount, classOf, badPlan}
-use Rattle.plan.specs.Fits.{Asks, Granted, small, medium, Carries, Carried}
+use Rattle.plan.specs.Fits.{TakePre, Granted, small, medium, Carries, Carried}
 use Rattle.plan.proofs.ClassOf.{class-known}
 use Rattle.plan.proofs.FaultSteps.{fine}
 
@@ -29,11 +29,11 @@ taking k = cond (ltb k 64) (Calls.takeBlocks k 15 room) (Calls.mediumTakeBlocks 
 taking-granted : (k : ℕ) → k < classCount → Granted (taking k)
 taking-granted k h =
     by-cases (ltb k 64)
-    (λ e. rw e (small k 15 room (ltb-true k 64 e) (asks k)))
-    (λ e. let l = ltb-false k 64 e in rw e (medium (k - 64) 15 room (omega arith) (asks (64 + (k - 64)))))
+    (λ e. rw e (small k 15 room (ltb-true k 64 e) (pre k)))
+    (λ e. let l = ltb-false k 64 e in rw e (medium (k - 64) 15 room (omega arith) (pre (64 + (k - 64)))))
   where
-    asks : (c : ℕ) → Asks c 15 room
-    asks c = record { low = omega arith; reserves = refl; commits = refl; long = shape-sound c .limited }
+    pre : (c : ℕ) → TakePre c 15 room
+    pre c = record { low = omega arith; reserves = refl; commits = refl; long = shape-sound c .limited }
 
 -- it names its class
 taking-names : (k : ℕ) → k < classCount → names (taking k) ≡ some (record { class = k; request = Calls.take 15 room })

@@ -19,7 +19,7 @@ use Rattle.model.specs.Arena.{Given}
 use Rattle.model.specs.Class.{Class, Result, Ask}
 use Rattle.model.specs.Heap.{Heap, newHeap, Outcome, offer, finish, interact, classCall, step}
 use Rattle.plan.specs.Plan.{classCount, pagesOf}
-use Rattle.plan.specs.Fits.{Asks, Granted, small, medium, Gives}
+use Rattle.plan.specs.Fits.{TakePre, Granted, small, medium, Gives}
 use Rattle.plan.proofs.Rounding.{per, pages-same, pages-new}
 use Rattle.plan.proofs.Takes.{At, spent, Takes, serves, wants, take-stands}
 use Rattle.plan.proofs.Draws.{Fresh, Draws, suffices, short, commit-draws}
@@ -71,21 +71,21 @@ pub record Named (x : Call) : Type 0 where
   pub host : ℕ
   pub list : List ℕ
   pub known : class < classCount
-  pub asks : Asks class host list
+  pub pre : TakePre class host list
   pub named : names x ≡ some (record { class = class; request = Calls.take host list })
   pub way : wayOf x ≡ toClass (record { class = class; request = Calls.take host list })
 
 pub granted-names : (x : Call) → Granted x → Named x
 unfolding wayOf
-granted-names x (small c h l k a) = record { class = c; host = h; list = l; known = omega arith; asks = a; named = rw (lt-ltb c 64 k); way = rw (le-ltb hostMax h (a .low), lt-ltb c 64 k) }
-granted-names x (medium c h l k a) = record { class = 64 + c; host = h; list = l; known = omega arith; asks = a; named = rw (lt-ltb c 12 k); way = rw (le-ltb hostMax h (a .low), lt-ltb c 12 k) }
+granted-names x (small c h l k a) = record { class = c; host = h; list = l; known = omega arith; pre = a; named = rw (lt-ltb c 64 k); way = rw (le-ltb hostMax h (a .low), lt-ltb c 64 k) }
+granted-names x (medium c h l k a) = record { class = 64 + c; host = h; list = l; known = omega arith; pre = a; named = rw (lt-ltb c 12 k); way = rw (le-ltb hostMax h (a .low), lt-ltb c 12 k) }
 
 pub step-is : (n : ℕ) (f : ℕ → ℕ) (H : Heap) → HeapAt n f H → (x : Call) (g : Named x) → StepIs n f (g .class) (step n H x)
 unfolding step classCall
 step-is n f H w x g =
     rw (g .way)
-    (asked-is n f H w (g .class) (g .known) (g .host) (g .asks .reserves) (g .asks .commits) _
-    (take-stands (shapeOf (g .class)) (shape-sound (g .class)) (H .rules (g .class)) (f (g .class)) (g .host) (g .list) (H .classes (g .class)) (g .asks .long) (w .classes (g .class))))
+    (asked-is n f H w (g .class) (g .known) (g .host) (g .pre .reserves) (g .pre .commits) _
+    (take-stands (shapeOf (g .class)) (shape-sound (g .class)) (H .rules (g .class)) (f (g .class)) (g .host) (g .list) (H .classes (g .class)) (g .pre .long) (w .classes (g .class))))
 
 -- a new heap
 pub new-at : (n : ℕ) (rules : Rules) → HeapAt n (λ c. 0) (newHeap rules)

@@ -36,7 +36,7 @@ pub record Summed (ks ts ss : List ℕ) : Type 0 where
   pub low : Low ss
 
 -- one entry
-pub record AddAsks (ss : List ℕ) (k t : ℕ) : Type 0 where
+pub record AddPre (ss : List ℕ) (k t : ℕ) : Type 0 where
   pub long : length ss ≡ classCount
   pub known : k < classCount
   pub fits : getD ss k 0 + t ≤ sumMax

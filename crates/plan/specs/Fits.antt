@@ -15,7 +15,7 @@ use Rattle.model.specs.History.{answers, callsOf}
 use Rattle.plan.specs.Plan.{classOf, takesOf, planTotal, badPlan}
 
 -- "every host answer granted", and the lent list is long enough. A take discards nothing: bits 2 and 3 may be anything
-pub record Asks (c h : ℕ) (l : List ℕ) : Type 0 where
+pub record TakePre (c h : ℕ) (l : List ℕ) : Type 0 where
   pub low : h ≤ hostMax
   pub reserves : reservationGranted h ≡ true
   pub commits : commitGranted h ≡ true
@@ -23,8 +23,8 @@ pub record Asks (c h : ℕ) (l : List ℕ) : Type 0 where
 
 -- a take of a class
 pub data Granted : Call → Type 0 where
-  small : (c h : ℕ) (l : List ℕ) → c < 64 → Asks c h l → Granted (takeBlocks c h l)
-  medium : (c h : ℕ) (l : List ℕ) → c < 12 → Asks (64 + c) h l → Granted (mediumTakeBlocks c h l)
+  small : (c h : ℕ) (l : List ℕ) → c < 64 → TakePre c h l → Granted (takeBlocks c h l)
+  medium : (c h : ℕ) (l : List ℕ) → c < 12 → TakePre (64 + c) h l → Granted (mediumTakeBlocks c h l)
 
 -- the take succeeds: its answer has at least one block
 abbrev pub Gives : Answer → Type 0

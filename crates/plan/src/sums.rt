@@ -2,7 +2,7 @@
 ghost use mathlib.Core.Path.{_≡_};
 ghost use Rattle.classes.specs.Lookup.{SmallLut, MediumLut};
 ghost use Rattle.plan.specs.Plan.{classOf};
-ghost use Rattle.plan.specs.Code.{Fine, Zeros, AddAsks, Added, Summed};
+ghost use Rattle.plan.specs.Code.{Fine, Zeros, AddPre, Added, Summed};
 use classes::Sized;
 
 // The class of a size, 0 to 63 small, 64 to 75 medium.
@@ -19,7 +19,7 @@ fn class_of(small: &[u8; 1025], medium: &[u8; 3069], size: u32) -> u32
 }
 
 fn add_entry(sums: &mut [u64; 76], class: u32, takes: u32)
-    requires { ⌜ AddAsks (now sums) class takes ⌝ }
+    requires { ⌜ AddPre (now sums) class takes ⌝ }
     ensures { λ _. ⌜ Added (now (sums .entry)) class takes (now (sums .exit)) ⌝ }
 {
     let c = class as usize;

@@ -1,4 +1,4 @@
--- A class's answers and the runs that it was given determine each other: a class of the pool by itself is its wishes and what it is given.
+-- A class's answers and the runs that it was given determine each other: a class of the pool by itself is its requests and what it is given.
 use Prim.Native.Nat.{ℕ, zero, suc, _+_, _≤_, min}
 use mathlib.Core.Path.{_≡_, refl, sym, ap, _∙_, subst, ap₂}
 use mathlib.Core.List.{List, [], _∷_, map, reverse, reverseAux, head-eq-of-cons-eq, tail-eq-of-cons-eq}
@@ -30,8 +30,8 @@ use Rattle.model.proofs.Alone as Heaps
 use Rattle.model.proofs.Alone.{Fits, own-call, other, step-rules, runs-first}
 use Rattle.pool.specs.Stock.{blank}
 use Rattle.pool.specs.Pool as Pools
-use Rattle.pool.specs.Pool.{Pool, newPool, PoolCall, Plan, Wish, PoolAnswer, Done, to, direct, Direct, trim, turn, stays, poolStep, carry, pass, plan, bring, ends, callFor, callBy, noBlock, refused}
-use Rattle.pool.specs.Told.{PoolEvent, eventOf, poolEventsFrom, poolEvents, isOf, poolCallsOf, poolAnswersOf, poolRunsOf}
+use Rattle.pool.specs.Pool.{Pool, newPool, PoolCall, Plan, PoolRequest, PoolAnswer, Done, to, direct, Direct, trim, turn, stays, poolStep, carry, pass, plan, bring, ends, callFor, callBy, noBlock, refused}
+use Rattle.pool.specs.Observed.{PoolEvent, eventOf, poolEventsFrom, poolEvents, isOf, poolCallsOf, poolAnswersOf, poolRunsOf}
 use Rattle.pool.specs.way.Claims.{PoolAlone}
 use Rattle.pool.proofs.Lives.{direct-none}
 use Rattle.pool.proofs.Plans.{Planned, is-turned, is-popped, is-taken, is-put, is-given, is-bare, is-trimmed, planned}
@@ -80,21 +80,21 @@ module _ (sh : Shape) (ok : Sound sh) where
   first-comes (i ∷ is) q h e = let z : _≡_ {A = ℕ} 0 1 = cc in omega arith
 
   module _ (fs : List Page) where
-    abbrev told : Option ℕ → PoolAnswer
-    told g = bring (reverse (blocksOf (onRun sh blank fs g .answer))) .answer
+    abbrev observed : Option ℕ → PoolAnswer
+    observed g = bring (reverse (blocksOf (onRun sh blank fs g .answer))) .answer
 
-    told-some : (q : ℕ) → told (some q) ≡ bring (map (λ i. wordOf sh q (0 + i)) (reverse (indices (isMedium sh)))) .answer
-    told-some q = ap (λ z. bring z .answer) (ap reverse (run-blocks sh ok blank fs q) ∙ stock-map (isMedium sh) q)
+    observed-some : (q : ℕ) → observed (some q) ≡ bring (map (λ i. wordOf sh q (0 + i)) (reverse (indices (isMedium sh)))) .answer
+    observed-some q = ap (λ z. bring z .answer) (ap reverse (run-blocks sh ok blank fs q) ∙ stock-map (isMedium sh) q)
 
-    told-none : told none ≡ noBlock
+    observed-none : observed none ≡ noBlock
     unfolding onRun
-    told-none = refl
+    observed-none = refl
 
-    run-told : (g g′ : Option ℕ) → told g ≡ told g′ → g ≡ g′
-    run-told none none e = refl
-    run-told none (some q) e = absurd (first-comes (reverse (indices (isMedium sh))) q (some-block (isMedium sh)) (sym told-none ∙ e ∙ told-some q))
-    run-told (some q) none e = absurd (first-comes (reverse (indices (isMedium sh))) q (some-block (isMedium sh)) (sym told-none ∙ sym e ∙ told-some q))
-    run-told (some q) (some q′) e = ap some (first-tells (reverse (indices (isMedium sh))) q q′ (some-block (isMedium sh)) (sym (told-some q) ∙ e ∙ told-some q′))
+    run-observed : (g g′ : Option ℕ) → observed g ≡ observed g′ → g ≡ g′
+    run-observed none none e = refl
+    run-observed none (some q) e = absurd (first-comes (reverse (indices (isMedium sh))) q (some-block (isMedium sh)) (sym observed-none ∙ e ∙ observed-some q))
+    run-observed (some q) none e = absurd (first-comes (reverse (indices (isMedium sh))) q (some-block (isMedium sh)) (sym observed-none ∙ sym e ∙ observed-some q))
+    run-observed (some q) (some q′) e = ap some (first-tells (reverse (indices (isMedium sh))) q q′ (some-block (isMedium sh)) (sym (observed-some q) ∙ e ∙ observed-some q′))
 
 -- ---- a release asks the arena for nothing
 record Home (q : Ask) : Type 0 where
@@ -130,7 +130,7 @@ module _ (sh : Shape) (ok : Sound sh) (lim : Limits) (s : Class) (h : ℕ) where
   from-tells (p ∷ ps) es cs fs g g′ f f′ e = f ∙ sym f′
   from-tells [] (p ∷ es) cs fs g g′ f f′ e = f ∙ sym f′
   from-tells [] [] (p ∷ cs) fs g g′ f f′ e = f ∙ sym f′
-  from-tells [] [] [] fs g g′ f f′ e = run-told sh ok fs g g′ e
+  from-tells [] [] [] fs g g′ f f′ e = run-observed sh ok fs g g′ e
 
 -- ---- a class by itself
 record Left : Type 0 where
@@ -142,7 +142,7 @@ module _ (lim : Limits) (c : ℕ) (s : Class) (st : List ℕ) where
   abbrev asked : Request → Ask
   asked q = answer (shapeOf c) lim s q
 
-  abbrev leftBy : Wish → Plan → Option ℕ → Left
+  abbrev leftBy : PoolRequest → Plan → Option ℕ → Left
   leftBy x (turn n) g = record { class = s; stock = st; answer = refused n }
   leftBy x (stays r st′) g = record { class = s; stock = st′; answer = r }
   leftBy x (Pools.goes q new) g =
@@ -153,10 +153,10 @@ module _ (lim : Limits) (c : ℕ) (s : Class) (st : List ℕ) where
   FitsPlan (stays r st′) g = g ≡ none
   FitsPlan (Pools.goes q new) g = Fits (asked q) g
 
-  abbrev left : Wish → Option ℕ → Left
+  abbrev left : PoolRequest → Option ℕ → Left
   left x g = leftBy x (plan c s st x) g
 
-  left-tells : {x : Wish} {p : Plan} → Planned c s st x p → (g g′ : Option ℕ) → FitsPlan p g → FitsPlan p g′ → leftBy x p g .answer ≡ leftBy x p g′ .answer → g ≡ g′
+  left-tells : {x : PoolRequest} {p : Plan} → Planned c s st x p → (g g′ : Option ℕ) → FitsPlan p g → FitsPlan p g′ → leftBy x p g .answer ≡ leftBy x p g′ .answer → g ≡ g′
   unfolding ends
   left-tells (is-turned n) g g′ f f′ e = f ∙ sym f′
   left-tells (is-popped low y) g g′ f f′ e = f ∙ sym f′
@@ -172,27 +172,27 @@ module _ (lim : Limits) (c : ℕ) (s : Class) (st : List ℕ) where
   left-tells (is-trimmed {h = h} {w = w} ok low y) g g′ f f′ e = let t = give-home (shapeOf c) (shape-sound c) lim s h (w ∷ []) in t .none-given g f ∙ sym (t .none-given g′ f′)
 
 -- its calls in turn
-abbrev wishOf : PoolCall → Wish
-wishOf (to c x) = x
-wishOf (direct d) = trim 0
+abbrev requestOf : PoolCall → PoolRequest
+requestOf (to c x) = x
+requestOf (direct d) = trim 0
 
 abbrev replay : Limits → ℕ → Class → List ℕ → List PoolCall → List (Option ℕ) → List PoolAnswer
 replay lim c s st [] gs = []
 replay lim c s st (x ∷ xs) [] = []
-replay lim c s st (x ∷ xs) (g ∷ gs) = left lim c s st (wishOf x) g .answer ∷ replay lim c (left lim c s st (wishOf x) g .class) (left lim c s st (wishOf x) g .stock) xs gs
+replay lim c s st (x ∷ xs) (g ∷ gs) = left lim c s st (requestOf x) g .answer ∷ replay lim c (left lim c s st (requestOf x) g .class) (left lim c s st (requestOf x) g .stock) xs gs
 
 abbrev AllFit : Limits → ℕ → Class → List ℕ → List PoolCall → List (Option ℕ) → Type 0
 AllFit lim c s st [] gs = gs ≡ []
 AllFit lim c s st (x ∷ xs) [] = ⊥
-AllFit lim c s st (x ∷ xs) (g ∷ gs) = FitsPlan lim c s st (plan c s st (wishOf x)) g × AllFit lim c (left lim c s st (wishOf x) g .class) (left lim c s st (wishOf x) g .stock) xs gs
+AllFit lim c s st (x ∷ xs) (g ∷ gs) = FitsPlan lim c s st (plan c s st (requestOf x)) g × AllFit lim c (left lim c s st (requestOf x) g .class) (left lim c s st (requestOf x) g .stock) xs gs
 
 replay-tells : (lim : Limits) (c : ℕ) (s : Class) (st : List ℕ) (xs : List PoolCall) (gs gs′ : List (Option ℕ)) → AllFit lim c s st xs gs → AllFit lim c s st xs gs′ → replay lim c s st xs gs ≡ replay lim c s st xs gs′ → gs ≡ gs′
 replay-tells lim c s st [] gs gs′ f f′ e = f ∙ sym f′
 replay-tells lim c s st (x ∷ xs) [] gs′ f f′ e = absurd f
 replay-tells lim c s st (x ∷ xs) (g ∷ gs) [] f f′ e = absurd f′
 replay-tells lim c s st (x ∷ xs) (g ∷ gs) (g′ ∷ gs′) f f′ e =
-    let same : g ≡ g′ = left-tells lim c s st (planned c s st (wishOf x)) g g′ (f .0) (f′ .0) (head-eq-of-cons-eq e) in
-    let l = left lim c s st (wishOf x) in
+    let same : g ≡ g′ = left-tells lim c s st (planned c s st (requestOf x)) g g′ (f .0) (f′ .0) (head-eq-of-cons-eq e) in
+    let l = left lim c s st (requestOf x) in
     let rest = subst (λ z. AllFit lim c (l z .class) (l z .stock) xs gs′ → replay lim c (l g .class) (l g .stock) xs gs ≡ replay lim c (l z .class) (l z .stock) xs gs′ → gs ≡ gs′)
     same (replay-tells lim c (l g .class) (l g .stock) xs gs gs′ (f .1)) in
     ap₂ _∷_ same (rest (f′ .1) (tail-eq-of-cons-eq e))
@@ -219,11 +219,11 @@ module _ (size : ℕ) (P : Pool) (c : ℕ) where
   abbrev st : List ℕ
   st = P .stock c
 
-  home : (x : Wish) (r : PoolAnswer) (st′ : List ℕ) → Mine c (carry size P c x (stays r st′)) (leftBy lim c s st x (stays r st′)) (FitsPlan lim c s st (stays r st′))
+  home : (x : PoolRequest) (r : PoolAnswer) (st′ : List ℕ) → Mine c (carry size P c x (stays r st′)) (leftBy lim c s st x (stays r st′)) (FitsPlan lim c s st (stays r st′))
   unfolding carry
   home x r st′ = record { gift = none; run = refl; class = refl; stock = update-same (P .stock) c st′; answer = refl; fits = refl }
 
-  away : (x : Wish) (q : Request) (new : List ℕ) → step size H (callFor c q) ≡ classCall size H c q
+  away : (x : PoolRequest) (q : Request) (new : List ℕ) → step size H (callFor c q) ≡ classCall size H c q
       → Mine c (carry size P c x (Pools.goes q new)) (leftBy lim c s st x (Pools.goes q new)) (FitsPlan lim c s st (Pools.goes q new))
   unfolding carry
   away x q new e =
@@ -237,7 +237,7 @@ module _ (size : ℕ) (P : Pool) (c : ℕ) where
         fits = o .fits;
       }
 
-  mine : {x : Wish} {p : Plan} → Planned c s st x p → Mine c (carry size P c x p) (leftBy lim c s st x p) (FitsPlan lim c s st p)
+  mine : {x : PoolRequest} {p : Plan} → Planned c s st x p → Mine c (carry size P c x p) (leftBy lim c s st x p) (FitsPlan lim c s st p)
   unfolding carry
   mine (is-turned n) = record { gift = none; run = refl; class = refl; stock = refl; answer = refl; fits = refl }
   mine {x} (is-popped low y) = home x _ _
@@ -247,22 +247,22 @@ module _ (size : ℕ) (P : Pool) (c : ℕ) where
   mine {x} (is-bare y) = home x _ _
   mine {x} (is-trimmed {h = h} {w = w} {ws = ws} ok low y) = away x (Calls.giveBack h (w ∷ [])) ws (step-give size H c h (w ∷ []) ok low)
 
-  -- another class's wish, or a direct call
+  -- another class's request, or a direct call
   record Keeps (d : Done) : Type 0 where
     class : d .pool .heap .classes c ≡ s
     stock : d .pool .stock c ≡ st
     rules : d .pool .heap .rules ≡ H .rules
 
   module _ (b : ℕ) (n : eqb b c ≡ false) where
-    far : (x : Wish) (q : Request) (new : List ℕ) → step size H (callFor b q) ≡ classCall size H b q → Keeps (carry size P b x (Pools.goes q new))
+    far : (x : PoolRequest) (q : Request) (new : List ℕ) → step size H (callFor b q) ≡ classCall size H b q → Keeps (carry size P b x (Pools.goes q new))
     unfolding carry classCall interact finish
     far x q new e = record { class = rw e (update-other (H .classes) b c _ n); stock = update-other (P .stock) b c _ n; rules = rw e }
 
-    near : (x : Wish) (r : PoolAnswer) (st′ : List ℕ) → Keeps (carry size P b x (stays r st′))
+    near : (x : PoolRequest) (r : PoolAnswer) (st′ : List ℕ) → Keeps (carry size P b x (stays r st′))
     unfolding carry
     near x r st′ = record { class = refl; stock = update-other (P .stock) b c _ n; rules = refl }
 
-    theirs : {x : Wish} {p : Plan} → Planned b (H .classes b) (P .stock b) x p → Keeps (carry size P b x p)
+    theirs : {x : PoolRequest} {p : Plan} → Planned b (H .classes b) (P .stock b) x p → Keeps (carry size P b x p)
     unfolding carry
     theirs (is-turned m) = record { class = refl; stock = refl; rules = refl }
     theirs {x} (is-popped low y) = near x _ _
@@ -294,12 +294,12 @@ record Replayed (lim : Limits) (c : ℕ) (s : Class) (st : List ℕ) (xs : List 
   fit : AllFit lim c s st (poolCallsOf c xs) gifts
 
 module _ (lim : Limits) (c : ℕ) (s : Class) (st : List ℕ) (x : PoolCall) (xs : List PoolCall) (d : Done) (vs : List PoolEvent) (ih : Replayed lim c (d .pool .heap .classes c) (d .pool .stock c) xs vs) where
-  replayed-own : isOf c x ≡ true → Mine c d (left lim c s st (wishOf x)) (FitsPlan lim c s st (plan c s st (wishOf x))) → Replayed lim c s st (x ∷ xs) (eventOf x d ∷ vs)
+  replayed-own : isOf c x ≡ true → Mine c d (left lim c s st (requestOf x)) (FitsPlan lim c s st (plan c s st (requestOf x))) → Replayed lim c s st (x ∷ xs) (eventOf x d ∷ vs)
   replayed-own e own = record {
     gifts = own .gift ∷ ih .gifts;
     runs = rw e (ap₂ _∷_ (own .run) (ih .runs));
     answers = rw e (ap₂ _∷_ (own .answer) (ih .answers ∙ ap₂ (λ y z. replay lim c y z (poolCallsOf c xs) (ih .gifts)) (own .class) (own .stock)));
-    fit = rw e (own .fits, subst (λ y. AllFit lim c y (left lim c s st (wishOf x) (own .gift) .stock) (poolCallsOf c xs) (ih .gifts)) (own .class) (subst (λ z. AllFit lim c (d .pool .heap .classes c) z (poolCallsOf c xs) (ih .gifts)) (own .stock) (ih .fit)));
+    fit = rw e (own .fits, subst (λ y. AllFit lim c y (left lim c s st (requestOf x) (own .gift) .stock) (poolCallsOf c xs) (ih .gifts)) (own .class) (subst (λ z. AllFit lim c (d .pool .heap .classes c) z (poolCallsOf c xs) (ih .gifts)) (own .stock) (ih .fit)));
   }
 
   replayed-other : isOf c x ≡ false → d .pool .heap .classes c ≡ s → d .pool .stock c ≡ st → Replayed lim c s st (x ∷ xs) (eventOf x d ∷ vs)

@@ -19,7 +19,7 @@ use Rattle.model.proofs.EntryCounts.{is, at, is-self, in-total, Has, counted}
 use Rattle.model.proofs.Accounts.{not-direct}
 use Rattle.model.proofs.Apart.{in-one, at-self, entry-held, entry-inside, entry-kind, class-same, word-same}
 use Rattle.pool.specs.Pool.{Pool, PoolCall}
-use Rattle.pool.specs.Told.{toldOf, poolEvents}
+use Rattle.pool.specs.Observed.{observedOf, poolEvents}
 use Rattle.pool.specs.way.Claims.{PoolDisjoint}
 use Rattle.pool.proofs.Kept.{PoolInv, pool-kept, at-most}
 
@@ -82,7 +82,7 @@ module _ (size : ℕ) (small : size ≤ maxPages) (n k : ℕ) (P : Pool) (es gs 
 
 pub pool-disjoint : (size : ℕ) → size ≤ maxPages → (rules : Rules) (xs : List PoolCall) → PoolDisjoint size rules xs
 pool-disjoint size small rules xs =
-    let vs = toldOf (poolEvents size rules xs) in
+    let vs = observedOf (poolEvents size rules xs) in
     let K = pool-kept size rules xs in
     let I = K .kept .holds in
     let live : (e : Entry) → Live 0 vs e → In e (liveFrom 0 [] vs) = λ e o. live-in 0 e [] vs o in

@@ -25,10 +25,10 @@ use Rattle.model.proofs.Counts.{elem-count, count-elem, count-not}
 use Rattle.model.proofs.Sites.{here-out}
 use Rattle.model.proofs.Theorems.{yielding, offered}
 use Rattle.pool.specs.Pool.{Pool, newPool, PoolCall, to, trim, poolStep, plan, planTrim, carry, ends, firstOf, noBlock}
-use Rattle.pool.specs.Told.{toldOf, poolEvents, poolFrom, poolAfter, heapCalls}
+use Rattle.pool.specs.Observed.{observedOf, poolEvents, poolFrom, poolAfter, heapCalls}
 use Rattle.pool.specs.way.Claims.{AllocNone, Trims, Conserved}
 use Rattle.pool.proofs.Kept.{PoolInv, PoolKept, pool-kept, call-kept, at-most}
-use Rattle.pool.proofs.Frees.{out-there, stock-out, gives, told-out, out-told, none-when}
+use Rattle.pool.proofs.Frees.{out-there, stock-out, gives, observed-out, out-observed, none-when}
 use Rattle.pool.proofs.OnHeap.{on-heap}
 
 pub pool-append : (size : ℕ) (P : Pool) (xs ys : List PoolCall) → poolFrom size P (xs ++ ys) ≡ poolFrom size (poolFrom size P xs) ys
@@ -105,7 +105,7 @@ once-each (x ∷ s) h =
 
 pub conserved : (size : ℕ) → size ≤ maxPages → (rules : Rules) (xs : List PoolCall) → Conserved size rules xs
 conserved size small rules xs =
-    let vs = toldOf (poolEvents size rules xs) in
+    let vs = observedOf (poolEvents size rules xs) in
     let P = poolAfter size rules xs in
     let A = pool-kept size rules xs in
     let K = A .kept in
@@ -114,13 +114,13 @@ conserved size small rules xs =
       out = λ c w. (
         (λ o. let t = here-out (shapeOf c) (shape-sound c) (P .heap .classes c) (I .inv .good c) w o in
             by-cases (elem w (P .stock c)) (λ e. inr e)
-            (λ e. inl (told-out vs c w (omega (arith, t, I .inv .outs c w, I .split c w, count-elem w (P .stock c) e))))),
+            (λ e. inl (observed-out vs c w (omega (arith, t, I .inv .outs c w, I .split c w, count-elem w (P .stock c) e))))),
         (λ o. elim o [
-          | inl u ↦ out-there size small _ _ P _ _ _ _ I c w (omega (arith, I .split c w, out-told vs c w u))
+          | inl u ↦ out-there size small _ _ P _ _ _ _ I c w (omega (arith, I .split c w, out-observed vs c w u))
           | inr e ↦ out-there size small _ _ P _ _ _ _ I c w (omega (arith, I .split c w, elem-count w (P .stock c) e))
         ]),
       );
-      either = λ c w u. count-not w (P .stock c) (omega (arith, out-told vs c w u, I .split c w, at-most (I .inv) c w));
+      either = λ c w u. count-not w (P .stock c) (omega (arith, out-observed vs c w u, I .split c w, at-most (I .inv) c w));
       once = λ c. once-each (P .stock c) (λ w. omega (arith, I .split c w, at-most (I .inv) c w));
       trims = λ c h k ok low few. ap (λ Q. Q .stock c) (pool-append size (newPool rules) xs (replicate k (to c (trim h)))) ∙ trims-left size small c h ok low k (A .calls) P _ _ K few;
     }

@@ -11,14 +11,14 @@ use Rattle.model.specs.HoleStore as Holes
 use Rattle.model.specs.Arena as Arenas
 use Rattle.model.specs.Page as Pages
 use Rattle.model.specs.Class as Classes
-use Rattle.model.specs.Spot as Spots
+use Rattle.model.specs.Destination as Destinations
 use Rattle.model.specs.Release as Releases
 use Rattle.model.specs.Chunks as Chunks
 use Rattle.model.specs.Heap as Heaps
 use Rattle.pool.specs.Stock as Stocks
 use Rattle.pool.specs.Pool as Pools
 use Rattle.pool.specs.Pool.{PoolCall, PoolAnswer, to, alloc, free, trim, granted, freed, trimmed, noBlock, refused}
-use Rattle.pool.specs.Told.{poolEvents}
+use Rattle.pool.specs.Observed.{poolEvents}
 
 abbrev history : List PoolCall
 history =
@@ -31,5 +31,5 @@ answers =
     ∷ refused 10 ∷ refused 9 ∷ refused 3 ∷ refused 4 ∷ granted (2 ^ 62 + 3) ∷ trimmed (2 ^ 62 + 2051) ∷ noBlock ∷ []
 
 pub example-holds : map (λ v. v .answer) (poolEvents 64 plainRules history) ≡ answers
-unfolding smallSizes mediumSizes smallShape mediumShape shapeOf Holes.leastFit Holes.cutFrom Holes.lowestThat Holes.place Holes.insert Holes.accepts Arenas.give Arenas.drawFrom Arenas.draw Arenas.grant Arenas.commitReady Arenas.commitAs Arenas.commit Arenas.grow Arenas.contains Pages.wordOf Pages.carveAs Pages.carvedWords Pages.isOut Pages.noneOut Pages.hasMore Pages.carvedNow Pages.pop Pages.returned Pages.retire Pages.reused Classes.after Classes.fillFromList Classes.served Classes.thawed Classes.onRun Classes.takeFrom Releases.find Releases.inPartial Releases.inFull Releases.locate Spots.spotOf Releases.park Releases.settle Releases.ofKind Releases.outHere Releases.repeats Releases.onPage Releases.releaseList Chunks.blocksOn Chunks.chunkFits Chunks.chunked Chunks.settleChunk Chunks.settleChunks Chunks.releaseChunks Chunks.answer Heaps.newHeap Heaps.offer Heaps.finish Heaps.interact Heaps.classCall Heaps.heldDirect Heaps.badRun Heaps.parkedPages Heaps.commitCall Heaps.growCall Heaps.releaseCall Heaps.directCall Heaps.step Calls.wayOf plainRules Stocks.stockMost Pools.newPool Pools.planAlloc Pools.planTrim Pools.isGranted Pools.planFree Pools.plan Pools.ends Pools.carry Pools.pass Pools.poolStep
+unfolding smallSizes mediumSizes smallShape mediumShape shapeOf Holes.leastFit Holes.cutFrom Holes.lowestThat Holes.place Holes.insert Holes.accepts Arenas.give Arenas.drawFrom Arenas.draw Arenas.grant Arenas.commitReady Arenas.commitAs Arenas.commit Arenas.grow Arenas.contains Pages.wordOf Pages.carveAs Pages.carvedWords Pages.isOut Pages.noneOut Pages.hasMore Pages.carvedNow Pages.pop Pages.returned Pages.retire Pages.reused Classes.after Classes.fillFromList Classes.served Classes.thawed Classes.onRun Classes.takeFrom Releases.find Releases.inPartial Releases.inFull Releases.locate Destinations.destinationOf Releases.park Releases.settle Releases.ofKind Releases.outHere Releases.repeats Releases.onPage Releases.releaseList Chunks.blocksOn Chunks.chunkFits Chunks.chunked Chunks.settleChunk Chunks.settleChunks Chunks.releaseChunks Chunks.answer Heaps.newHeap Heaps.offer Heaps.finish Heaps.interact Heaps.classCall Heaps.heldDirect Heaps.badRun Heaps.parkedPages Heaps.commitCall Heaps.growCall Heaps.releaseCall Heaps.directCall Heaps.step Calls.wayOf plainRules Stocks.stockMost Pools.newPool Pools.planAlloc Pools.planTrim Pools.isGranted Pools.planFree Pools.plan Pools.ends Pools.carry Pools.pass Pools.poolStep
 example-holds = refl

@@ -39,8 +39,8 @@ use Rattle.model.proofs.Sites.{out-here}
 use Rattle.model.proofs.Apart.{entry-kind}
 use Rattle.model.proofs.Yields.{served-yields, thawed-more, new-more}
 use Rattle.pool.specs.Stock.{stockMost, blank}
-use Rattle.pool.specs.Pool.{Pool, PoolCall, Plan, Wish, to, alloc, free, turn, poolStep, carry, plan, planFree, planAlloc, isGranted, bring, ends, callFor, refused, noBlock, freed, trimmed}
-use Rattle.pool.specs.Told.{toldOf, poolEvents, poolAfter}
+use Rattle.pool.specs.Pool.{Pool, PoolCall, Plan, PoolRequest, to, alloc, free, turn, poolStep, carry, plan, planFree, planAlloc, isGranted, bring, ends, callFor, refused, noBlock, freed, trimmed}
+use Rattle.pool.specs.Observed.{observedOf, poolEvents, poolAfter}
 use Rattle.pool.specs.way.Claims.{Frees, Unchanged}
 use Rattle.pool.proofs.Kept.{PoolInv, pool-kept, at-most, grant-one}
 use Rattle.pool.proofs.Plans.{Planned, is-turned, is-popped, is-taken, is-put, is-given, is-bare, is-trimmed, planned, plan-low}
@@ -106,13 +106,13 @@ module _ (size : ℕ) (P : Pool) (c h w : ℕ) where
   free-stale e u k g = rw (e, u, k, g)
 
 -- a grant not yet freed, as the history tells it and as the invariant counts it
-pub told-out : (vs : List Event) (c w : ℕ) → 1 ≤ total (is c w) (liveFrom 0 [] vs) → OutIn vs c w
-told-out vs c w t =
+pub observed-out : (vs : List Event) (c w : ℕ) → 1 ≤ total (is c w) (liveFrom 0 [] vs) → OutIn vs c w
+observed-out vs c w t =
     let r = counted c w (liveFrom 0 [] vs) t in
     record { entry = r .entry; live = in-live (r .entry) vs (r .member); class = r .of-class; word = r .of-word }
 
-pub out-told : (vs : List Event) (c w : ℕ) → OutIn vs c w → 1 ≤ total (is c w) (liveFrom 0 [] vs)
-out-told vs c w o =
+pub out-observed : (vs : List Event) (c w : ℕ) → OutIn vs c w → 1 ≤ total (is c w) (liveFrom 0 [] vs)
+out-observed vs c w o =
     let e = o .entry in
     let m = in-total (is c w) e (liveFrom 0 [] vs) (live-in 0 e [] vs (o .live)) in
     let one : is c w e ≡ 1 = rw (← o .class, ← o .word) (is-self e) in
@@ -121,20 +121,20 @@ out-told vs c w o =
 pub frees : (size : ℕ) → size ≤ maxPages → (rules : Rules) (xs : List PoolCall) (c h w : ℕ) → Frees size rules xs c h w
 unfolding poolStep
 frees size small rules xs c h w =
-    let vs = toldOf (poolEvents size rules xs) in
+    let vs = observedOf (poolEvents size rules xs) in
     let P = poolAfter size rules xs in
     let K = pool-kept size rules xs .kept in
     record {
       host = free-host size P c h w;
       class = free-class size P c h w;
       done = λ ok low. (
-        (λ e. told-out vs c w (omega (arith, free-only size small _ _ P _ _ _ _ (K .holds) c w h (planned c (P .heap .classes c) (P .stock c) (free h w)) e))),
-        (λ o. free-done size small _ _ P _ _ _ _ (K .holds) c w h ok low (out-told vs c w o)),
+        (λ e. observed-out vs c w (omega (arith, free-only size small _ _ P _ _ _ _ (K .holds) c w h (planned c (P .heap .classes c) (P .stock c) (free h w)) e))),
+        (λ o. free-done size small _ _ P _ _ _ _ (K .holds) c w h ok low (out-observed vs c w o)),
       );
       kind = free-kind size P c h w;
       stale = λ ok low kd no.
           by-cases (isGranted (shapeOf c) (P .heap .classes c) (P .stock c) w)
-          (λ g. absurd (no (told-out vs c w (omega (arith, grant-one size _ _ P _ _ _ _ (K .holds) c low w g .1)))))
+          (λ g. absurd (no (observed-out vs c w (omega (arith, grant-one size _ _ P _ _ _ _ (K .holds) c low w g .1)))))
           (free-stale size P c h w ok low kd);
     }
 
@@ -219,7 +219,7 @@ module _ (size : ℕ) (P : Pool) (c h : ℕ) (ok : badHost h ≡ false) (low : l
 -- ---- a refusal
 module _ (size : ℕ) (small : size ≤ maxPages) (n k : ℕ) (P : Pool) (es gs : List Entry) (f : ℕ → Bool) (l : ℕ → ℕ) (K : PoolInv size n k P es gs f l) (c m : ℕ) where
   -- none comes of the heap
-  refused-turn : {x : Wish} {p : Plan} → Planned c (P .heap .classes c) (P .stock c) x p → carry size P c x p .answer ≡ refused m → p ≡ turn m
+  refused-turn : {x : PoolRequest} {p : Plan} → Planned c (P .heap .classes c) (P .stock c) x p → carry size P c x p .answer ≡ refused m → p ≡ turn m
   unfolding carry ends
   refused-turn (is-turned j) e = let z : j ≡ m = cc in ap turn z
   refused-turn (is-popped low y) e = let z : _≡_ {A = ℕ} 0 1 = cc in absurd (omega arith)
@@ -233,11 +233,11 @@ module _ (size : ℕ) (small : size ≤ maxPages) (n k : ℕ) (P : Pool) (es gs 
       let d : trimmed w ≡ refused m = rw (gives size small n k P es gs f l K c w h ok low (stock-out size small n k P es gs f l K c w ws y), y) at e in
       let z : _≡_ {A = ℕ} 0 1 = cc in absurd (omega arith)
 
-turned-still : (size : ℕ) (P : Pool) (c : ℕ) (x : Wish) (p : Plan) (m : ℕ) → p ≡ turn m → (carry size P c x p .pool ≡ P) × (carry size P c x p .calls ≡ [])
+turned-still : (size : ℕ) (P : Pool) (c : ℕ) (x : PoolRequest) (p : Plan) (m : ℕ) → p ≡ turn m → (carry size P c x p .pool ≡ P) × (carry size P c x p .calls ≡ [])
 unfolding carry
 turned-still size P c x p m e = rw e (refl, refl)
 
-pub unchanged : (size : ℕ) → size ≤ maxPages → (rules : Rules) (xs : List PoolCall) (c : ℕ) (x : Wish) → Unchanged size rules xs c x
+pub unchanged : (size : ℕ) → size ≤ maxPages → (rules : Rules) (xs : List PoolCall) (c : ℕ) (x : PoolRequest) → Unchanged size rules xs c x
 unfolding poolStep
 unchanged size small rules xs c x = record {
   same = λ n e. turned-still size (poolAfter size rules xs) c x _ n (refused-turn size small _ _ _ _ _ _ _ (pool-kept size rules xs .kept .holds) c n (planned c _ _ x) e);

@@ -21,7 +21,7 @@ use lib.ListN.{length, drop, length-append}
 use lib.Seq.{take-append-seam}
 use Rattle.model.specs.Class.{Class, Cold, Ask, Filled, fillFromList, thawed, serve, refuse, takeFrom, served, onRun}
 use Rattle.model.proofs.Sites.{Tells, locate-tells}
-use Rattle.model.proofs.TakesTold.{fill-length}
+use Rattle.model.proofs.TakesObserved.{fill-length}
 use Rattle.model.specs.Release.{Site, ofKind, outHere, repeats, onPage, releaseList, locate}
 use Rattle.model.specs.Chunks.{answer}
 use Rattle.model.specs.Heap.{Heap, step, classCall, interact, finish}

@@ -24,10 +24,10 @@ use Rattle.model.proofs.EntryCounts.{is, at}
 use Rattle.model.proofs.Sites.{here-out, out-once}
 use Rattle.model.proofs.HeapLaws.{Inv, start, restate, step-inv}
 use Rattle.model.proofs.Accounts.{held-le}
-use Rattle.pool.specs.Pool.{Pool, newPool, PoolCall, Wish, PoolAnswer, Plan, Done, to, direct, Direct, alloc, free, trim, carry, pass, poolStep, callFor, callBy, isGranted, bring, ends, after, withStock, numberOf, refused, granted, noBlock, freed, trimmed}
+use Rattle.pool.specs.Pool.{Pool, newPool, PoolCall, PoolRequest, PoolAnswer, Plan, Done, to, direct, Direct, alloc, free, trim, carry, pass, poolStep, callFor, callBy, isGranted, bring, ends, after, withStock, numberOf, refused, granted, noBlock, freed, trimmed}
 use Rattle.pool.specs.Stock.{blank}
-use Rattle.pool.specs.Told.{wishCall, asCall, asAnswer, toldOf, poolEventsFrom, poolEvents, poolFrom, poolAfter}
-use Rattle.pool.proofs.Lives.{named, next, own-stay, own-gone, other, still-once, still-past, live-refused, names-take, names-give, take-quiet, give-quiet, wish-quiet, direct-none}
+use Rattle.pool.specs.Observed.{requestCall, asCall, asAnswer, observedOf, poolEventsFrom, poolEvents, poolFrom, poolAfter}
+use Rattle.pool.proofs.Lives.{named, next, own-stay, own-gone, other, still-once, still-past, live-refused, names-take, names-give, take-quiet, give-quiet, request-quiet, direct-none}
 use Rattle.pool.proofs.Plans.{Planned, is-turned, is-popped, is-taken, is-put, is-given, is-bare, is-trimmed, planned}
 use Rattle.pool.proofs.HeapCalls.{step-give, give-none, refused-is}
 
@@ -66,34 +66,34 @@ module _ (size : ℕ) (n k : ℕ) (P : Pool) (es gs : List Entry) (f : ℕ → B
     abbrev st : List ℕ
     st = P .stock c
 
-    -- a wish that changes neither heap nor grants
-    still : (x : Wish) (r : PoolAnswer) (P′ : Pool) → P′ .heap ≡ H → ((d w : ℕ) → count w (P′ .stock d) ≡ count w (P .stock d)) → PoolKept size (suc k) P′ gs (directNext (wishCall c x) (asAnswer r) f)
+    -- a request that changes neither heap nor grants
+    still : (x : PoolRequest) (r : PoolAnswer) (P′ : Pool) → P′ .heap ≡ H → ((d w : ℕ) → count w (P′ .stock d) ≡ count w (P .stock d)) → PoolKept size (suc k) P′ gs (directNext (requestCall c x) (asAnswer r) f)
     still x r P′ same stocks = record {
       number = n;
       entries = es;
       lost = l;
       holds = record {
-        inv = restate (rw same (K .inv)) (λ y. wish-quiet f (asAnswer r) y c x) (λ y. refl);
+        inv = restate (rw same (K .inv)) (λ y. request-quiet f (asAnswer r) y c x) (λ y. refl);
         split = λ d w. omega (arith, K .split d w, stocks d w);
         once = K .once;
         past = λ j i h. K .past j i (omega arith);
       };
     }
 
-    turned-kept : (x : Wish) (m : ℕ) → PoolKept size (suc k) P (liveNext k (names (wishCall c x)) (Calls.refused m) gs) (directNext (wishCall c x) (Calls.refused m) f)
-    turned-kept x m = rw (live-refused k (names (wishCall c x)) m gs) (still x (refused m) P refl (λ d w. refl))
+    turned-kept : (x : PoolRequest) (m : ℕ) → PoolKept size (suc k) P (liveNext k (names (requestCall c x)) (Calls.refused m) gs) (directNext (requestCall c x) (Calls.refused m) f)
+    turned-kept x m = rw (live-refused k (names (requestCall c x)) m gs) (still x (refused m) P refl (λ d w. refl))
 
     module _ (low : ltb c classCount ≡ true) where
-      -- a wish done with the stock alone
-      stock-kept : (x : Wish) (q : Request) (r : PoolAnswer) (st′ : List ℕ)
+      -- a request done with the stock alone
+      stock-kept : (x : PoolRequest) (q : Request) (r : PoolAnswer) (st′ : List ℕ)
           → ((w : ℕ) → total (is c w) es ≡ total (is c w) (next k c q (asAnswer r) gs) + count w st′)
-          → PoolKept size (suc k) (withStock P c H st′) (next k c q (asAnswer r) gs) (directNext (wishCall c x) (asAnswer r) f)
+          → PoolKept size (suc k) (withStock P c H st′) (next k c q (asAnswer r) gs) (directNext (requestCall c x) (asAnswer r) f)
       stock-kept x q r st′ own = record {
         number = n;
         entries = es;
         lost = l;
         holds = record {
-          inv = restate (K .inv) (λ y. wish-quiet f (asAnswer r) y c x) (λ y. refl);
+          inv = restate (K .inv) (λ y. request-quiet f (asAnswer r) y c x) (λ y. refl);
           split = split-at (P .stock) c st′ es (next k c q (asAnswer r) gs) own (λ d w e. omega (arith, K .split d w, other k c q (asAnswer r) gs d w e));
           once = still-once k c q (asAnswer r) gs (K .once) (K .past);
           past = still-past k c q (asAnswer r) gs (K .past);
@@ -101,7 +101,7 @@ module _ (size : ℕ) (n k : ℕ) (P : Pool) (es gs : List Entry) (f : ℕ → B
       }
 
       popped-kept : (h w : ℕ) (ws : List ℕ) → st ≡ w ∷ ws
-          → PoolKept size (suc k) (withStock P c H ws) (liveNext k (names (wishCall c (alloc h))) (asAnswer (granted w)) gs) (directNext (wishCall c (alloc h)) (asAnswer (granted w)) f)
+          → PoolKept size (suc k) (withStock P c H ws) (liveNext k (names (requestCall c (alloc h))) (asAnswer (granted w)) gs) (directNext (requestCall c (alloc h)) (asAnswer (granted w)) f)
       popped-kept h w ws e =
           rw (names-take c h blank low)
           (stock-kept (alloc h) (take h blank) (granted w) ws (λ v. omega (arith, K .split c v, ap (count v) e, own-stay k c (take h blank) (asAnswer (granted w)) gs v refl)))
@@ -116,7 +116,7 @@ module _ (size : ℕ) (n k : ℕ) (P : Pool) (es gs : List Entry) (f : ℕ → B
           (one, omega (arith, K .split c w), z)
 
       put-kept : (h w : ℕ) → isGranted (shapeOf c) (H .classes c) st w ≡ true
-          → PoolKept size (suc k) (withStock P c H (w ∷ st)) (liveNext k (names (wishCall c (free h w))) (asAnswer freed) gs) (directNext (wishCall c (free h w)) (asAnswer freed) f)
+          → PoolKept size (suc k) (withStock P c H (w ∷ st)) (liveNext k (names (requestCall c (free h w))) (asAnswer freed) gs) (directNext (requestCall c (free h w)) (asAnswer freed) f)
       put-kept h w g =
           let t = grant-one w g in
           rw (names-give c h (w ∷ []) low)
@@ -125,8 +125,8 @@ module _ (size : ℕ) (n k : ℕ) (P : Pool) (es gs : List Entry) (f : ℕ → B
           (λ e. let same = eqb-true v w e in rw same (rw (eq-eqb w w refl) (omega (arith, t .0, t .2, own-gone k c (giveBack h (w ∷ [])) (asAnswer freed) gs w (rw (eq-eqb w w refl) (omega arith))))))
           (λ e. rw e (omega (arith, K .split c v, own-stay k c (giveBack h (w ∷ [])) (asAnswer freed) gs v (rw e))))))
 
-      -- a wish that went to the heap, by one call
-      module _ (x : Wish) (q : Request) (nm : names (callFor c q) ≡ some (named c q)) (qt : (a : Answer) (y : ℕ) → directNext (callFor c q) a f y ≡ f y) where
+      -- a request that went to the heap, by one call
+      module _ (x : PoolRequest) (q : Request) (nm : names (callFor c q) ≡ some (named c q)) (qt : (a : Answer) (y : ℕ) → directNext (callFor c q) a f y ≡ f y) where
         abbrev o : Outcome
         o = step size H (callFor c q)
 
@@ -137,13 +137,13 @@ module _ (size : ℕ) (n k : ℕ) (P : Pool) (es gs : List Entry) (f : ℕ → B
             → ((w : ℕ) → total (is c w) es′ ≡ total (is c w) gs′ + count w st′)
             → ((d w : ℕ) → eqb d c ≡ false → total (is d w) gs′ ≡ total (is d w) gs)
             → ((j i : ℕ) → total (at j i) gs′ ≤ 1) → ((j i : ℕ) → suc k ≤ j → total (at j i) gs′ ≡ 0)
-            → PoolKept size (suc k) (withStock P c (o .heap) st′) gs′ (directNext (wishCall c x) (asAnswer r) f)
+            → PoolKept size (suc k) (withStock P c (o .heap) st′) gs′ (directNext (requestCall c x) (asAnswer r) f)
         went r st′ gs′ own others once past = record {
           number = suc n;
           entries = es′;
           lost = _;
           holds = record {
-            inv = restate (rw nm at (step-inv size n H es f l (K .inv) (callFor c q))) (λ y. wish-quiet f (asAnswer r) y c x ∙ sym (qt (o .answer) y)) (λ y. refl);
+            inv = restate (rw nm at (step-inv size n H es f l (K .inv) (callFor c q))) (λ y. request-quiet f (asAnswer r) y c x ∙ sym (qt (o .answer) y)) (λ y. refl);
             split = split-at (P .stock) c st′ es′ gs′ own (λ d w e. omega (arith, K .split d w, others d w e, other n c q (o .answer) es d w e));
             once = once;
             past = past;
@@ -151,10 +151,10 @@ module _ (size : ℕ) (n k : ℕ) (P : Pool) (es gs : List Entry) (f : ℕ → B
         }
 
         went-refused : isRefused (o .answer) ≡ true
-            → PoolKept size (suc k) (withStock P c (o .heap) st) (liveNext k (names (wishCall c x)) (Calls.refused (numberOf (o .answer))) gs) (directNext (wishCall c x) (Calls.refused (numberOf (o .answer))) f)
+            → PoolKept size (suc k) (withStock P c (o .heap) st) (liveNext k (names (requestCall c x)) (Calls.refused (numberOf (o .answer))) gs) (directNext (requestCall c x) (Calls.refused (numberOf (o .answer))) f)
         went-refused e =
             let a = refused-is (o .answer) e in
-            rw (live-refused k (names (wishCall c x)) (numberOf (o .answer)) gs)
+            rw (live-refused k (names (requestCall c x)) (numberOf (o .answer)) gs)
             (went (refused (numberOf (o .answer))) st gs
             (λ w. omega (arith, K .split c w, own-stay n c q (o .answer) es w (rw e), ap (λ z. count w (blocksOf z)) a))
             (λ d w e. refl) (K .once) (λ j i h. K .past j i (omega arith)))
@@ -165,7 +165,7 @@ module _ (size : ℕ) (n k : ℕ) (P : Pool) (es gs : List Entry) (f : ℕ → B
         took = step size H (callFor c (take h blank))
 
         pub brought : (bs : List ℕ) → reverse (blocksOf (took .answer)) ≡ bs → isRefused (took .answer) ≡ false → st ≡ []
-            → PoolKept size (suc k) (withStock P c (took .heap) (bring bs .stock)) (next k c (take h blank) (asAnswer (bring bs .answer)) gs) (directNext (wishCall c (alloc h)) (asAnswer (bring bs .answer)) f)
+            → PoolKept size (suc k) (withStock P c (took .heap) (bring bs .stock)) (next k c (take h blank) (asAnswer (bring bs .answer)) gs) (directNext (requestCall c (alloc h)) (asAnswer (bring bs .answer)) f)
         brought [] e u z =
             went (alloc h) (take h blank) (names-take c h blank low) (λ a y. take-quiet f a y c h blank) noBlock [] (next k c (take h blank) (asAnswer noBlock) gs)
             (λ v. omega (arith, K .split c v, ap (count v) z, ap (count v) e, count-reverse v (blocksOf (took .answer)), own-stay n c (take h blank) (took .answer) es v (rw u), own-stay k c (take h blank) (asAnswer noBlock) gs v refl))
@@ -179,8 +179,8 @@ module _ (size : ℕ) (n k : ℕ) (P : Pool) (es gs : List Entry) (f : ℕ → B
             (still-once k c (take h blank) (asAnswer (granted w)) gs (K .once) (K .past))
             (still-past k c (take h blank) (asAnswer (granted w)) gs (K .past))
 
-        abbrev Next : Wish → Done → Type 0
-        Next x d = PoolKept size (suc k) (d .pool) (liveNext k (names (wishCall c x)) (asAnswer (d .answer)) gs) (directNext (wishCall c x) (asAnswer (d .answer)) f)
+        abbrev Next : PoolRequest → Done → Type 0
+        Next x d = PoolKept size (suc k) (d .pool) (liveNext k (names (requestCall c x)) (asAnswer (d .answer)) gs) (directNext (requestCall c x) (asAnswer (d .answer)) f)
 
         taken-kept : st ≡ [] → Next (alloc h) (after P c (alloc h) (callFor c (take h blank)) [] took)
         unfolding ends
@@ -234,23 +234,23 @@ module _ (size : ℕ) (n k : ℕ) (P : Pool) (es gs : List Entry) (f : ℕ → B
               (λ e. let there : count v st ≡ 0 + count v ws = ap (count v) z ∙ rw e in omega (arith, stay-one v e u, K .split c v)))
               (λ d v e. refl) (K .once) (λ j i m. K .past j i (omega arith))))
 
-  -- what a wish leaves, by its plan
+  -- what a request leaves, by its plan
   module _ (c : ℕ) where
-    abbrev Leaves : Wish → Done → Type 0
-    Leaves x d = PoolKept size (suc k) (d .pool) (liveNext k (names (wishCall c x)) (asAnswer (d .answer)) gs) (directNext (wishCall c x) (asAnswer (d .answer)) f)
+    abbrev Leaves : PoolRequest → Done → Type 0
+    Leaves x d = PoolKept size (suc k) (d .pool) (liveNext k (names (requestCall c x)) (asAnswer (d .answer)) gs) (directNext (requestCall c x) (asAnswer (d .answer)) f)
 
     bare : P .stock c ≡ [] → (d w : ℕ) → count w (update (P .stock) c [] d) ≡ count w (P .stock d)
     bare z d w = by-cases (eqb d c) (λ e. rw e (sym (ap (λ j. count w (P .stock j)) (eqb-true d c e) ∙ ap (count w) z))) (λ e. rw e)
 
-    wish-kept : {x : Wish} {p : Plan} → Planned c (H .classes c) (P .stock c) x p → Leaves x (carry size P c x p)
+    request-kept : {x : PoolRequest} {p : Plan} → Planned c (H .classes c) (P .stock c) x p → Leaves x (carry size P c x p)
     unfolding carry
-    wish-kept {x} (is-turned m) = turned-kept c x m
-    wish-kept (is-popped {h = h} {w = w} {ws = ws} low e) = popped-kept c low h w ws e
-    wish-kept (is-taken {h = h} ok low e) = taken-kept c low h ok e
-    wish-kept (is-put {h = h} {w = w} low g) = put-kept c low h w g
-    wish-kept (is-given {h = h} {w = w} ok low kd g) = given-kept c low h ok w g
-    wish-kept (is-bare {h = h} e) = still c (trim h) noBlock (withStock P c H []) refl (bare e)
-    wish-kept (is-trimmed {h = h} {w = w} {ws = ws} ok low e) = trimmed-kept c low h ok w ws e
+    request-kept {x} (is-turned m) = turned-kept c x m
+    request-kept (is-popped {h = h} {w = w} {ws = ws} low e) = popped-kept c low h w ws e
+    request-kept (is-taken {h = h} ok low e) = taken-kept c low h ok e
+    request-kept (is-put {h = h} {w = w} low g) = put-kept c low h w g
+    request-kept (is-given {h = h} {w = w} ok low kd g) = given-kept c low h ok w g
+    request-kept (is-bare {h = h} e) = still c (trim h) noBlock (withStock P c H []) refl (bare e)
+    request-kept (is-trimmed {h = h} {w = w} {ws = ws} ok low e) = trimmed-kept c low h ok w ws e
 
   direct-kept : (d : Direct) → PoolKept size (suc k) (pass size P d .pool) (liveNext k (names (callBy d)) (asAnswer (pass size P d .answer)) gs) (directNext (callBy d) (asAnswer (pass size P d .answer)) f)
   unfolding pass
@@ -269,7 +269,7 @@ module _ (size : ℕ) (n k : ℕ) (P : Pool) (es gs : List Entry) (f : ℕ → B
 
   pub call-kept : (x : PoolCall) → PoolKept size (suc k) (poolStep size P x .pool) (liveNext k (names (asCall x)) (asAnswer (poolStep size P x .answer)) gs) (directNext (asCall x) (asAnswer (poolStep size P x .answer)) f)
   unfolding poolStep
-  call-kept (to c x) = wish-kept c (planned c (H .classes c) (P .stock c) x)
+  call-kept (to c x) = request-kept c (planned c (H .classes c) (P .stock c) x)
   call-kept (direct d) = direct-kept d
 
 -- after every history
@@ -278,7 +278,7 @@ pub record AllKept (size : ℕ) (P : Pool) (gs : List Entry) (f : ℕ → Bool) 
   pub kept : PoolKept size calls P gs f
 
 history-kept : (size k : ℕ) (P : Pool) (gs : List Entry) (f : ℕ → Bool) → PoolKept size k P gs f → (xs : List PoolCall)
-    → AllKept size (poolFrom size P xs) (liveFrom k gs (toldOf (poolEventsFrom size P xs))) (directFrom f (toldOf (poolEventsFrom size P xs)))
+    → AllKept size (poolFrom size P xs) (liveFrom k gs (observedOf (poolEventsFrom size P xs))) (directFrom f (observedOf (poolEventsFrom size P xs)))
 history-kept size k P gs f K [] = record { calls = k; kept = K }
 history-kept size k P gs f K (x ∷ xs) =
     history-kept size (suc k) (poolStep size P x .pool) _ _ (call-kept size (K .number) k P (K .entries) gs f (K .lost) (K .holds) x) xs
@@ -293,5 +293,5 @@ new-kept size rules = record {
 }
 
 pub pool-kept : (size : ℕ) (rules : Rules) (xs : List PoolCall)
-    → AllKept size (poolAfter size rules xs) (liveFrom 0 [] (toldOf (poolEvents size rules xs))) (directFrom (λ x. false) (toldOf (poolEvents size rules xs)))
+    → AllKept size (poolAfter size rules xs) (liveFrom 0 [] (observedOf (poolEvents size rules xs))) (directFrom (λ x. false) (observedOf (poolEvents size rules xs)))
 pool-kept size rules xs = history-kept size 0 (newPool rules) [] (λ x. false) (new-kept size rules) xs

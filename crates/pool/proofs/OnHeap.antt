@@ -12,8 +12,8 @@ use Rattle.model.specs.Heap.{Heap, step}
 use Rattle.model.specs.History.{Event, eventOf, eventsFrom, heapFrom}
 use Rattle.model.specs.Entries.{Entry}
 use Rattle.model.proofs.Pages.{all-append}
-use Rattle.pool.specs.Pool.{Pool, newPool, PoolCall, Plan, Wish, Direct, to, direct, turn, stays, goes, poolStep, carry, pass, plan}
-use Rattle.pool.specs.Told.{poolFrom, heapCallsFrom}
+use Rattle.pool.specs.Pool.{Pool, newPool, PoolCall, Plan, PoolRequest, Direct, to, direct, turn, stays, goes, poolStep, carry, pass, plan}
+use Rattle.pool.specs.Observed.{poolFrom, heapCallsFrom}
 use Rattle.pool.specs.way.Claims.{OnHeap}
 use Rattle.pool.proofs.Lives.{direct-none}
 use Rattle.pool.proofs.Plans.{Planned, is-turned, is-popped, is-taken, is-put, is-given, is-bare, is-trimmed, planned}
@@ -25,7 +25,7 @@ pub heap-append : (size : ℕ) (H : Heap) (xs ys : List Call) → heapFrom size 
 heap-append size H [] ys = refl
 heap-append size H (x ∷ xs) ys = heap-append size (step size H x .heap) xs ys
 
-carried : (size : ℕ) (P : Pool) (c : ℕ) (x : Wish) (p : Plan) → carry size P c x p .pool .heap ≡ heapFrom size (P .heap) (carry size P c x p .calls)
+carried : (size : ℕ) (P : Pool) (c : ℕ) (x : PoolRequest) (p : Plan) → carry size P c x p .pool .heap ≡ heapFrom size (P .heap) (carry size P c x p .calls)
 unfolding carry
 carried size P c x (turn n) = refl
 carried size P c x (stays r st) = refl
@@ -53,15 +53,15 @@ Fine v = isSome (names (v .call)) ≡ true → isRefused (v .answer) ≡ false
 
 module _ (size : ℕ) (small : size ≤ maxPages) where
   module _ (n k : ℕ) (P : Pool) (es gs : List Entry) (f : ℕ → Bool) (l : ℕ → ℕ) (K : PoolInv size n k P es gs f l) where
-    wish-fine : (c : ℕ) {x : Wish} {p : Plan} → Planned c (P .heap .classes c) (P .stock c) x p → All Fine (eventsFrom size (P .heap) (carry size P c x p .calls))
+    request-fine : (c : ℕ) {x : PoolRequest} {p : Plan} → Planned c (P .heap .classes c) (P .stock c) x p → All Fine (eventsFrom size (P .heap) (carry size P c x p .calls))
     unfolding carry
-    wish-fine c (is-turned m) = tt
-    wish-fine c (is-popped low e) = tt
-    wish-fine c (is-taken {h = h} ok low e) = (λ s. took-done size P c h ok low, tt)
-    wish-fine c (is-put low g) = tt
-    wish-fine c (is-given {h = h} {w = w} ok low kd g) = (λ s. gives size small n k P es gs f l K c w h ok low (omega (arith, grant-one size n k P es gs f l K c low w g .0)), tt)
-    wish-fine c (is-bare e) = tt
-    wish-fine c (is-trimmed {h = h} {w = w} {ws = ws} ok low e) = (λ s. gives size small n k P es gs f l K c w h ok low (stock-out size small n k P es gs f l K c w ws e), tt)
+    request-fine c (is-turned m) = tt
+    request-fine c (is-popped low e) = tt
+    request-fine c (is-taken {h = h} ok low e) = (λ s. took-done size P c h ok low, tt)
+    request-fine c (is-put low g) = tt
+    request-fine c (is-given {h = h} {w = w} ok low kd g) = (λ s. gives size small n k P es gs f l K c w h ok low (omega (arith, grant-one size n k P es gs f l K c low w g .0)), tt)
+    request-fine c (is-bare e) = tt
+    request-fine c (is-trimmed {h = h} {w = w} {ws = ws} ok low e) = (λ s. gives size small n k P es gs f l K c w h ok low (stock-out size small n k P es gs f l K c w ws e), tt)
 
     direct-fine : (d : Direct) → All Fine (eventsFrom size (P .heap) (pass size P d .calls))
     unfolding pass
@@ -69,7 +69,7 @@ module _ (size : ℕ) (small : size ≤ maxPages) where
 
     call-fine : (x : PoolCall) → All Fine (eventsFrom size (P .heap) (poolStep size P x .calls))
     unfolding poolStep
-    call-fine (to c x) = wish-fine c (planned c (P .heap .classes c) (P .stock c) x)
+    call-fine (to c x) = request-fine c (planned c (P .heap .classes c) (P .stock c) x)
     call-fine (direct d) = direct-fine d
 
   fine-from : (k : ℕ) (P : Pool) (gs : List Entry) (f : ℕ → Bool) → PoolKept size k P gs f → (xs : List PoolCall) → All Fine (eventsFrom size (P .heap) (heapCallsFrom size P xs))

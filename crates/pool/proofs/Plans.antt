@@ -1,4 +1,4 @@
--- The ways of a wish, each with what is known then: seven, so that what follows goes by these and not by nested tests.
+-- The ways of a request, each with what is known then: seven, so that what follows goes by these and not by nested tests.
 use Prim.Native.Nat.{ℕ}
 use native.Mathlib.Omega.{arith}
 use mathlib.Core.Path.{_≡_, refl, subst}
@@ -15,10 +15,10 @@ use Rattle.model.specs.Calls.{Request, take, giveBack}
 use Rattle.model.specs.Class.{Class}
 use Rattle.model.specs.Release.{ofKind}
 use Rattle.pool.specs.Stock.{stockMost, blank}
-use Rattle.pool.specs.Pool.{Plan, PoolAnswer, turn, stays, goes, Wish, alloc, free, trim, hostIn, planAlloc, planFree, planTrim, planOf, plan, isGranted, granted, noBlock, freed}
+use Rattle.pool.specs.Pool.{Plan, PoolAnswer, turn, stays, goes, PoolRequest, alloc, free, trim, hostIn, planAlloc, planFree, planTrim, planOf, plan, isGranted, granted, noBlock, freed}
 
-pub data Planned (c : ℕ) (s : Class) (st : List ℕ) : Wish → Plan → Type 0 where
-  is-turned : {x : Wish} (n : ℕ) → Planned c s st x (turn n)
+pub data Planned (c : ℕ) (s : Class) (st : List ℕ) : PoolRequest → Plan → Type 0 where
+  is-turned : {x : PoolRequest} (n : ℕ) → Planned c s st x (turn n)
   is-popped : {h : ℕ} {w : ℕ} {ws : List ℕ} → ltb c classCount ≡ true → st ≡ w ∷ ws → Planned c s st (alloc h) (stays (granted w) ws)
   is-taken : {h : ℕ} → badHost h ≡ false → ltb c classCount ≡ true → st ≡ [] → Planned c s st (alloc h) (goes (take h blank) [])
   is-put : {h w : ℕ} → ltb c classCount ≡ true → isGranted (shapeOf c) s st w ≡ true → Planned c s st (free h w) (stays freed (w ∷ st))
@@ -26,7 +26,7 @@ pub data Planned (c : ℕ) (s : Class) (st : List ℕ) : Wish → Plan → Type 
   is-bare : {h : ℕ} → st ≡ [] → Planned c s st (trim h) (stays noBlock [])
   is-trimmed : {h : ℕ} {w : ℕ} {ws : List ℕ} → badHost h ≡ false → ltb c classCount ≡ true → st ≡ w ∷ ws → Planned c s st (trim h) (goes (giveBack h (w ∷ [])) ws)
 
-planned-cond : {c : ℕ} {s : Class} {st : List ℕ} {x : Wish} (b : Bool) (n : ℕ) (p : Plan) → (b ≡ false → Planned c s st x p) → Planned c s st x (cond b (turn n) p)
+planned-cond : {c : ℕ} {s : Class} {st : List ℕ} {x : PoolRequest} (b : Bool) (n : ℕ) (p : Plan) → (b ≡ false → Planned c s st x p) → Planned c s st x (cond b (turn n) p)
 planned-cond true n p f = is-turned n
 planned-cond false n p f = f refl
 
@@ -52,16 +52,16 @@ module _ (c : ℕ) (s : Class) (low : ltb c classCount ≡ true) where
       planned-cond _ 10 _ (λ g.
       granted-planned st h w ok (not-false (ofKind (shapeOf c .kind) w) k) (not-false (isGranted (shapeOf c) s st w) g)))
 
-  wish-planned : (st : List ℕ) (x : Wish) → badHost (hostIn x) ≡ false → Planned c s st x (planOf c s st x)
-  wish-planned st (alloc h) ok = alloc-planned st h ok
-  wish-planned st (free h w) ok = free-planned st h w ok
-  wish-planned st (trim h) ok = trim-planned st h ok
+  request-planned : (st : List ℕ) (x : PoolRequest) → badHost (hostIn x) ≡ false → Planned c s st x (planOf c s st x)
+  request-planned st (alloc h) ok = alloc-planned st h ok
+  request-planned st (free h w) ok = free-planned st h w ok
+  request-planned st (trim h) ok = trim-planned st h ok
 
-pub planned : (c : ℕ) (s : Class) (st : List ℕ) (x : Wish) → Planned c s st x (plan c s st x)
+pub planned : (c : ℕ) (s : Class) (st : List ℕ) (x : PoolRequest) → Planned c s st x (plan c s st x)
 unfolding plan
-planned c s st x = planned-cond _ 3 _ (λ ok. planned-cond _ 4 _ (λ l. wish-planned c s (not-false (ltb c classCount) l) st x ok))
+planned c s st x = planned-cond _ 3 _ (λ ok. planned-cond _ 4 _ (λ l. request-planned c s (not-false (ltb c classCount) l) st x ok))
 
--- ---- the numbers of a wish that is turned away
+-- ---- the numbers of a request that is turned away
 record Low (p : Plan) : Type 0 where
   low : (n : ℕ) → p ≡ turn n → elem n (3 ∷ 4 ∷ 9 ∷ 10 ∷ []) ≡ true
 
@@ -95,12 +95,12 @@ unfolding planTrim
 trim-low h [] = low-stays noBlock []
 trim-low h (w ∷ ws) = low-goes (giveBack h (w ∷ [])) ws
 
-wish-low : (c : ℕ) (s : Class) (st : List ℕ) (x : Wish) → Low (planOf c s st x)
-wish-low c s st (alloc h) = alloc-low h st
-wish-low c s st (free h w) = free-low c s st h w
-wish-low c s st (trim h) = trim-low h st
+request-low : (c : ℕ) (s : Class) (st : List ℕ) (x : PoolRequest) → Low (planOf c s st x)
+request-low c s st (alloc h) = alloc-low h st
+request-low c s st (free h w) = free-low c s st h w
+request-low c s st (trim h) = trim-low h st
 
-pub plan-low : (c : ℕ) (s : Class) (st : List ℕ) (x : Wish) (n : ℕ) → plan c s st x ≡ turn n → elem n (3 ∷ 4 ∷ 9 ∷ 10 ∷ []) ≡ true
+pub plan-low : (c : ℕ) (s : Class) (st : List ℕ) (x : PoolRequest) (n : ℕ) → plan c s st x ≡ turn n → elem n (3 ∷ 4 ∷ 9 ∷ 10 ∷ []) ≡ true
 unfolding plan
 plan-low c s st x =
-    low-cond (badHost (hostIn x)) (turn 3) _ (low-turn 3 refl) (low-cond (not (ltb c classCount)) (turn 4) (planOf c s st x) (low-turn 4 refl) (wish-low c s st x)) .low
+    low-cond (badHost (hostIn x)) (turn 3) _ (low-turn 3 refl) (low-cond (not (ltb c classCount)) (turn 4) (planOf c s st x) (low-turn 4 refl) (request-low c s st x)) .low

@@ -1,4 +1,4 @@
 pub mod Stock
 pub mod Pool
-pub mod Told
+pub mod Observed
 pub mod way

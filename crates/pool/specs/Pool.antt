@@ -27,12 +27,12 @@ unfoldable pub newPool : Rules → Pool
 newPool rules = record { heap = newHeap rules; stock = λ c. [] }
 
 -- what a class is asked; a trim sends the next block in stock back to the heap
-pub data Wish : Type 0 where
-  alloc : (host : ℕ) → Wish
-  free : (host word : ℕ) → Wish
-  trim : (host : ℕ) → Wish
+pub data PoolRequest : Type 0 where
+  alloc : (host : ℕ) → PoolRequest
+  free : (host word : ℕ) → PoolRequest
+  trim : (host : ℕ) → PoolRequest
 
-abbrev pub hostIn : Wish → ℕ
+abbrev pub hostIn : PoolRequest → ℕ
 hostIn (alloc h) = h
 hostIn (free h w) = h
 hostIn (trim h) = h
@@ -54,7 +54,7 @@ callBy report = Calls.report
 
 -- a class's id is 0 to 63 for the small ones, 64 to 75 for the medium ones
 pub data PoolCall : Type 0 where
-  to : (class : ℕ) → Wish → PoolCall
+  to : (class : ℕ) → PoolRequest → PoolCall
   direct : Direct → PoolCall
 
 -- an alloc is granted a block or has none; a trim has the block that went back, or none; a direct call is answered by the heap
@@ -65,7 +65,7 @@ pub data PoolAnswer : Type 0 where
   noBlock freed : PoolAnswer
   answered : Answer → PoolAnswer
 
--- ---- what becomes of a wish: it is turned away; or done with the stock alone, told as it is afterwards; or it goes to the heap, with
+-- ---- what becomes of a request: it is turned away; or done with the stock alone, told as it is afterwards; or it goes to the heap, with
 -- the stock as it is but for what the heap brings
 pub data Plan : Type 0 where
   turn : (number : ℕ) → Plan
@@ -91,16 +91,16 @@ planFree sh most s st h w =
     (cond (not (isGranted sh s st w)) (turn 10)
     (cond (ltb (length st) most) (stays freed (w ∷ st)) (goes (giveBack h (w ∷ [])) st)))
 
-abbrev pub planOf : ℕ → Class → List ℕ → Wish → Plan
+abbrev pub planOf : ℕ → Class → List ℕ → PoolRequest → Plan
 planOf c s st (alloc h) = planAlloc h st
 planOf c s st (free h w) = planFree (shapeOf c) (stockMost c) s st h w
 planOf c s st (trim h) = planTrim h st
 
 -- numbers 3 and 4 come first
-unfoldable pub plan : ℕ → Class → List ℕ → Wish → Plan
+unfoldable pub plan : ℕ → Class → List ℕ → PoolRequest → Plan
 plan c s st x = cond (badHost (hostIn x)) (turn 3) (cond (not (ltb c classCount)) (turn 4) (planOf c s st x))
 
--- ---- a wish that goes to the heap
+-- ---- a request that goes to the heap
 abbrev pub callFor : ℕ → Request → Call
 callFor c (take h l) = cond (ltb c 64) (Calls.takeBlocks c h l) (Calls.mediumTakeBlocks (c - 64) h l)
 callFor c (giveBack h ws) = cond (ltb c 64) (Calls.releaseBlocks c h ws) (Calls.mediumReleaseBlocks (c - 64) h ws)
@@ -121,7 +121,7 @@ firstOf [] = noBlock
 firstOf (w ∷ ws) = trimmed w
 
 -- `old` and `new` are the stock before, and as the plan leaves it
-abbrev pub endOf : Wish → (old new : List ℕ) → Answer → End
+abbrev pub endOf : PoolRequest → (old new : List ℕ) → Answer → End
 endOf (alloc h) old new a = bring (reverse (blocksOf a))
 endOf (free h w) old new a = record { answer = freed; stock = new }
 endOf (trim h) old new a = record { answer = firstOf old; stock = new }
@@ -139,7 +139,7 @@ numberOf (Calls.contained b) = 0
 numberOf (Calls.reported f) = 0
 
 -- the heap's refusal is the pool's, and nothing changes
-unfoldable pub ends : Wish → (old new : List ℕ) → Answer → End
+unfoldable pub ends : PoolRequest → (old new : List ℕ) → Answer → End
 ends x old new a = cond (isRefused a) (record { answer = refused (numberOf a); stock = old }) (endOf x old new a)
 
 -- ---- one call: the pool afterwards, the answer, the heap's calls that were made, and what the arena gave at them
@@ -152,12 +152,12 @@ pub record Done : Type 0 where
 abbrev pub withStock : Pool → ℕ → Heap → List ℕ → Pool
 withStock P c H st = record { heap = H; stock = update (P .stock) c st }
 
-abbrev pub after : Pool → ℕ → Wish → Call → List ℕ → Outcome → Done
+abbrev pub after : Pool → ℕ → PoolRequest → Call → List ℕ → Outcome → Done
 after P c x y new o =
     let e = ends x (P .stock c) new (o .answer) in
     record { pool = withStock P c (o .heap) (e .stock); answer = e .answer; calls = y ∷ []; run = o .run }
 
-unfoldable pub carry : ℕ → Pool → ℕ → Wish → Plan → Done
+unfoldable pub carry : ℕ → Pool → ℕ → PoolRequest → Plan → Done
 carry size P c x (turn n) = record { pool = P; answer = refused n; calls = []; run = none }
 carry size P c x (stays a st) = record { pool = withStock P c (P .heap) st; answer = a; calls = []; run = none }
 carry size P c x (goes r st) = after P c x (callFor c r) st (step size (P .heap) (callFor c r))

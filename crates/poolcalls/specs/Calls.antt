@@ -18,15 +18,15 @@ use Rattle.calls.specs.Out.{outAt}
 use Rattle.calls.specs.Take.{Took, takeCall}
 use Rattle.calls.specs.Release.{Released, releaseBlocks}
 use Rattle.pool.specs.Stock.{stockRoom, stockMost, blank}
-use Rattle.pool.specs.Pool.{Wish, alloc, free, trim, PoolAnswer, refused, granted, trimmed, noBlock, freed, answered}
+use Rattle.pool.specs.Pool.{PoolRequest, alloc, free, trim, PoolAnswer, refused, granted, trimmed, noBlock, freed, answered}
 use Rattle.poolcalls.specs.Stock.{countIn, entryIn, blockIn, stocked, putCount, pushed, filled}
 
-pub record Said : Type 0 where
+pub record PoolReply : Type 0 where
   pub answer : PoolAnswer
   pub book : List ℕ
 
-abbrev pub said : PoolAnswer → List ℕ → Said
-said a b = record { answer = a; book = b }
+abbrev pub poolReply : PoolAnswer → List ℕ → PoolReply
+poolReply a b = record { answer = a; book = b }
 
 -- ---- as numbers: what a call returns, and its out-parameter, which a refusal leaves; none is the word of kind 0
 abbrev pub codeOf : PoolAnswer → ℕ
@@ -46,75 +46,75 @@ blockOut freed old = old
 blockOut (answered a) old = old
 
 -- ---- number 13: COUNT, and the ENTRY on top
-unfoldable pub countFair : List ℕ → ℕ → Bool
-countFair b c = leb (countIn b c) stockRoom
+unfoldable pub countValid : List ℕ → ℕ → Bool
+countValid b c = leb (countIn b c) stockRoom
 
-unfoldable pub topFair : ℕ → List ℕ → ℕ → Bool
-topFair n b c = countFair b c && ltb (entryIn b c (countIn b c - 1)) (4096 * n)
+unfoldable pub topValid : ℕ → List ℕ → ℕ → Bool
+topValid n b c = countValid b c && ltb (entryIn b c (countIn b c - 1)) (4096 * n)
 
 -- how many blocks there are; 0 for a COUNT out of its range
 unfoldable pub stockedIn : List ℕ → ℕ → ℕ
-stockedIn b c = cond (countFair b c) (countIn b c) 0
+stockedIn b c = cond (countValid b c) (countIn b c) 0
 
 -- ---- alloc
 -- m blocks of a list
-unfoldable pub bringOn : List ℕ → ℕ → ℕ → List ℕ → Said
-bringOn b c m l = cond (eqb m 0) (said noBlock b) (said (granted (getD l (m - 1) 0)) (filled b c (ListN.take (m - 1) l)))
+unfoldable pub bringOn : List ℕ → ℕ → ℕ → List ℕ → PoolReply
+bringOn b c m l = cond (eqb m 0) (poolReply noBlock b) (poolReply (granted (getD l (m - 1) 0)) (filled b c (ListN.take (m - 1) l)))
 
-unfoldable pub tookOn : ℕ → Took → Said
-tookOn c t = cond (eqb (t .code) 0) (bringOn (t .book) c (t .count) (t .list)) (said (refused (t .code)) (t .book))
+unfoldable pub tookOn : ℕ → Took → PoolReply
+tookOn c t = cond (eqb (t .code) 0) (bringOn (t .book) c (t .count) (t .list)) (poolReply (refused (t .code)) (t .book))
 
-unfoldable pub allocOn : ℕ → List ℕ → ℕ → ℕ → Said
+unfoldable pub allocOn : ℕ → List ℕ → ℕ → ℕ → PoolReply
 allocOn n b c h =
     cond (eqb (countIn b c) 0) (tookOn c (takeCall n b c (shapeOf c) h blank))
-    (cond (topFair n b c) (said (granted (blockIn b c (countIn b c - 1))) (putCount b c (countIn b c - 1))) (said (refused 13) b))
+    (cond (topValid n b c) (poolReply (granted (blockIn b c (countIn b c - 1))) (putCount b c (countIn b c - 1))) (poolReply (refused 13) b))
 
 -- ---- free
 -- a release of one block: `a` and the book `b` where it is not refused
-unfoldable pub gaveOn : PoolAnswer → List ℕ → Released → Said
-gaveOn a b z = cond (eqb (z .code) 0) (said a b) (said (refused (z .code)) (z .book))
+unfoldable pub releasedOn : PoolAnswer → List ℕ → Released → PoolReply
+releasedOn a b z = cond (eqb (z .code) 0) (poolReply a b) (poolReply (refused (z .code)) (z .book))
 
 -- a granted block: into the stock, or back to the heap
-unfoldable pub freedOn : ℕ → List ℕ → ℕ → ℕ → ℕ → Said
+unfoldable pub freedOn : ℕ → List ℕ → ℕ → ℕ → ℕ → PoolReply
 freedOn n b c h w =
-    cond (ltb (countIn b c) (stockMost c)) (said freed (pushed b c (granuleOf w)))
-    (cond (countFair b c)
-    (let z = releaseBlocks n b c (shapeOf c) h (w ∷ []) in gaveOn freed (z .book) z)
-    (said (refused 13) b))
+    cond (ltb (countIn b c) (stockMost c)) (poolReply freed (pushed b c (granuleOf w)))
+    (cond (countValid b c)
+    (let z = releaseBlocks n b c (shapeOf c) h (w ∷ []) in releasedOn freed (z .book) z)
+    (poolReply (refused 13) b))
 
 -- the heap has the block out in the class, which therefore lies in the arena; and it is not in stock
 abbrev pub grantedIn : ℕ → List ℕ → ℕ → ℕ → Bool
 grantedIn n b c w = outAt n b c (shapeOf c) w && not (stocked b c (granuleOf w))
 
-unfoldable pub freeOn : ℕ → List ℕ → ℕ → ℕ → ℕ → Said
+unfoldable pub freeOn : ℕ → List ℕ → ℕ → ℕ → ℕ → PoolReply
 freeOn n b c h w =
-    cond (not (ofKind (shapeOf c .kind) w)) (said (refused 9) b)
-    (cond (not (grantedIn n b c w)) (said (refused 10) b)
+    cond (not (ofKind (shapeOf c .kind) w)) (poolReply (refused 9) b)
+    (cond (not (grantedIn n b c w)) (poolReply (refused 10) b)
     (freedOn n b c h w))
 
 -- ---- trim
-unfoldable pub trimOn : ℕ → List ℕ → ℕ → ℕ → Said
+unfoldable pub trimOn : ℕ → List ℕ → ℕ → ℕ → PoolReply
 trimOn n b c h =
-    cond (eqb (countIn b c) 0) (said noBlock b)
-    (cond (topFair n b c)
+    cond (eqb (countIn b c) 0) (poolReply noBlock b)
+    (cond (topValid n b c)
     (let w = blockIn b c (countIn b c - 1) in
     let z = releaseBlocks n b c (shapeOf c) h (w ∷ []) in
-    gaveOn (trimmed w) (putCount (z .book) c (countIn b c - 1)) z)
-    (said (refused 13) b))
+    releasedOn (trimmed w) (putCount (z .book) c (countIn b c - 1)) z)
+    (poolReply (refused 13) b))
 
-abbrev pub wishOn : ℕ → List ℕ → ℕ → Wish → Said
-wishOn n b c (alloc h) = allocOn n b c h
-wishOn n b c (free h w) = freeOn n b c h w
-wishOn n b c (trim h) = trimOn n b c h
+abbrev pub requestOn : ℕ → List ℕ → ℕ → PoolRequest → PoolReply
+requestOn n b c (alloc h) = allocOn n b c h
+requestOn n b c (free h w) = freeOn n b c h w
+requestOn n b c (trim h) = trimOn n b c h
 
 -- ---- that the code ended so
 -- an alloc's or a trim's; w is the out-parameter before the call, w′ after it
-pub record BlockEnds (s : Said) (r : ℕ) (b : List ℕ) (w w′ : ℕ) : Type 0 where
+pub record BlockEnds (s : PoolReply) (r : ℕ) (b : List ℕ) (w w′ : ℕ) : Type 0 where
   pub code : r ≡ codeOf (s .answer)
   pub book : b ≡ s .book
   pub block : w′ ≡ blockOut (s .answer) w
 
 -- a free's
-pub record FreeEnds (s : Said) (r : ℕ) (b : List ℕ) : Type 0 where
+pub record FreeEnds (s : PoolReply) (r : ℕ) (b : List ℕ) : Type 0 where
   pub code : r ≡ codeOf (s .answer)
   pub book : b ≡ s .book

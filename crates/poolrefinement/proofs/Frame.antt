@@ -30,7 +30,7 @@ use Rattle.model.proofs.Theorems.{yielding}
 use Rattle.model.proofs.ArenaTidy.{few-give}
 use Rattle.arena.specs.Owners.{ownerCode}
 use Rattle.arena.specs.Load.{loadArena}
-use Rattle.arena.specs.Fair.{commitFair, growFair, giveFair}
+use Rattle.arena.specs.Valid.{commitValid, growValid, giveValid}
 use Rattle.arena.specs.Calls.{commitFor, commitCall, growCall, releaseCall, heldDirect}
 use Rattle.refinement.specs.way.Represents.{Represents}
 use Rattle.refinement.specs.Direct.{directReply}
@@ -38,24 +38,24 @@ use Rattle.refinement.specs.Run.{classReply, replyAs, callReply}
 use Rattle.refinement.proofs.ArenaFrames.{committed-changes, grown-changes, given-changes}
 use Rattle.refinement.proofs.ArenaReached.{Reached, reached-after}
 use Rattle.refinement.proofs.ChangePlaces.{ours}
-use Rattle.refinement.proofs.ArenaFair.{loads-number}
+use Rattle.refinement.proofs.ArenaValid.{loads-number}
 use Rattle.refinement.proofs.Frames.{Only, ofClass, only-rule}
 use Rattle.refinement.proofs.Kept.{class-beside}
 use Rattle.refinement.proofs.GiveClass.{arena-only}
-use Rattle.refinement.proofs.Mix.{mix, mix-same, PageIn, RowIn, at-word, in-page, in-slot, in-out, in-mark, in-row}
+use Rattle.refinement.proofs.Override.{override, override-same, PageIn, RowIn, at-word, in-page, in-slot, in-out, in-mark, in-row}
 use Rattle.refinement.proofs.LocalFill.{Home}
 use Rattle.refinement.proofs.LocalArena.{ArenaIn, in-arena, in-hole, committed-in, grown-in, given-in}
 use Rattle.refinement.proofs.Lengths.{Ours, reply-long}
 use Rattle.refinement.proofs.LocalReply.{Abroad, reply-local, ours-row}
 use Rattle.poolcalls.specs.HeapWords.{heapWord}
 
-pub not-mix : (S : ℕ → Bool) (b d : List ℕ) (i : ℕ) → S i ≡ false → length b ≡ length d → getD (mix S b d) i 0 ≡ getD d i 0
-unfolding mix
-not-mix S [] [] i e l = refl
-not-mix S [] (y ∷ ys) i e l = absurd (omega arith)
-not-mix S (x ∷ xs) [] i e l = absurd (omega arith)
-not-mix S (x ∷ xs) (y ∷ ys) zero e l = rw e
-not-mix S (x ∷ xs) (y ∷ ys) (suc i) e l = not-mix (λ i. S (suc i)) xs ys i e (omega arith)
+pub not-override : (S : ℕ → Bool) (b d : List ℕ) (i : ℕ) → S i ≡ false → length b ≡ length d → getD (override S b d) i 0 ≡ getD d i 0
+unfolding override
+not-override S [] [] i e l = refl
+not-override S [] (y ∷ ys) i e l = absurd (omega arith)
+not-override S (x ∷ xs) [] i e l = absurd (omega arith)
+not-override S (x ∷ xs) (y ∷ ys) zero e l = rw e
+not-override S (x ∷ xs) (y ∷ ys) (suc i) e l = not-override (λ i. S (suc i)) xs ys i e (omega arith)
 
 -- ---- where the fields lie
 pub arena-in : ArenaIn heapWord
@@ -97,9 +97,9 @@ module _ (n : ℕ) (hn : n ≤ maxPages) (b : List ℕ) (H : Heap) (R : Represen
       let S = heapWord in
       let home : Home S n b c (shapeOf c) = record { row = row-in c (ours-row c x o); pages = λ q w. page-in q } in
       let abroad : Abroad S H H c = record { roams = record { arena = arena-in; kin = λ z w. page-in z }; idle = λ z w. page-in z; arena = refl } in
-      let local = reply-local n hn b H R ok b H (subst (λ (m : List ℕ). Represents n m H) (sym (mix-same S b)) R) ok c listed refl home x o (inr abroad) in
-      let same : classReply n b c x .book ≡ mix S (classReply n b c x .book) b = rw (mix-same S b) at local in
-      ap (λ m. getD m i 0) same ∙ not-mix S (classReply n b c x .book) b i e (reply-long n hn b H R ok c listed x o)
+      let local = reply-local n hn b H R ok b H (subst (λ (m : List ℕ). Represents n m H) (sym (override-same S b)) R) ok c listed refl home x o (inr abroad) in
+      let same : classReply n b c x .book ≡ override S (classReply n b c x .book) b = rw (override-same S b) at local in
+      ap (λ m. getD m i 0) same ∙ not-override S (classReply n b c x .book) b i e (reply-long n hn b H R ok c listed x o)
 
 -- ---- the other way round
 pub field-in : (g : Field) → ok g ≡ true → heapWord (word g) ≡ true
@@ -136,8 +136,8 @@ represents-still n b H R ok b′ h =
 record Framed (b b′ : List ℕ) : Type 0 where
   frame : (i : ℕ) → heapWord i ≡ false → getD b′ i 0 ≡ getD b i 0
 
-framed-mix : (b b′ : List ℕ) → b′ ≡ mix heapWord b′ b → length b′ ≡ length b → Framed b b′
-framed-mix b b′ e l = record { frame = λ i o. ap (λ m. getD m i 0) e ∙ not-mix heapWord b′ b i o l }
+framed-override : (b b′ : List ℕ) → b′ ≡ override heapWord b′ b → length b′ ≡ length b → Framed b b′
+framed-override b b′ e l = record { frame = λ i o. ap (λ m. getD m i 0) e ∙ not-override heapWord b′ b i o l }
 
 framed-same : (b : List ℕ) → Framed b b
 framed-same b = record { frame = λ i o. refl }
@@ -149,9 +149,9 @@ module _ (n : ℕ) (b : List ℕ) (H : Heap) (R : Represents n b H) (ok : Reache
   commit-framed : (h m w : ℕ) → Framed b (commitFor n b h m w .book)
   unfolding commitFor
   commit-framed h m w =
-      by-cases (commitFair n b)
-      (λ e. rw e (framed-mix b _
-      (rw (mix-same heapWord b) at (committed-in arena-in b n b h m (loadArena b) w few (λ x l u. page-in x) (λ q z x l u. page-in x)))
+      by-cases (commitValid n b)
+      (λ e. rw e (framed-override b _
+      (rw (override-same heapWord b) at (committed-in arena-in b n b h m (loadArena b) w few (λ x l u. page-in x) (λ q z x l u. page-in x)))
       (committed-changes n b h m (loadArena b) few w .long)))
       (λ e. rw e (framed-same b))
 
@@ -161,9 +161,9 @@ module _ (n : ℕ) (b : List ℕ) (H : Heap) (R : Represents n b H) (ok : Reache
       by-cases (badGrowth old new)
       (λ e. rw e (framed-same b))
       (λ e. rw e (by-cases (heldDirect n b q old)
-      (λ d. rw d (by-cases (growFair n b h (q + old) (new - old))
-      (λ f. rw f (framed-mix b _
-      (rw (mix-same heapWord b) at (grown-in arena-in b n b h (q + old) (new - old) (loadArena b) few (λ x l u. page-in x) (λ q z x l u. page-in x)))
+      (λ d. rw d (by-cases (growValid n b h (q + old) (new - old))
+      (λ f. rw f (framed-override b _
+      (rw (override-same heapWord b) at (grown-in arena-in b n b h (q + old) (new - old) (loadArena b) few (λ x l u. page-in x) (λ q z x l u. page-in x)))
       (grown-changes n b h (new - old) (loadArena b) few (q + old) .long)))
       (λ f. rw f (framed-same b))))
       (λ d. rw d (framed-same b))))
@@ -175,9 +175,9 @@ module _ (n : ℕ) (b : List ℕ) (H : Heap) (R : Represents n b H) (ok : Reache
       by-cases (badRun m)
       (λ e. rw e (framed-same b))
       (λ e. rw e (by-cases (heldDirect n b q m)
-      (λ d. rw d (by-cases (giveFair n b m)
-      (λ f. rw f (framed-mix b _
-      (rw (mix-same heapWord b) at (given-in arena-in b b q m (omega (arith, loads-number b (H .arena) (R .arena .loads), ok .tidy .slots)) k (λ x l u. page-in x)))
+      (λ d. rw d (by-cases (giveValid n b m)
+      (λ f. rw f (framed-override b _
+      (rw (override-same heapWord b) at (given-in arena-in b b q m (omega (arith, loads-number b (H .arena) (R .arena .loads), ok .tidy .slots)) k (λ x l u. page-in x)))
       (given-changes b q m k .long)))
       (λ f. rw f (framed-same b))))
       (λ d. rw d (framed-same b))))

@@ -1,6 +1,6 @@
 pub mod Frame
 pub mod Stocks
-pub mod Wishes
+pub mod Requests
 pub mod Refills
 pub mod Whole
 pub mod Runs

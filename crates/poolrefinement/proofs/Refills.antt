@@ -32,25 +32,25 @@ use Rattle.refinement.proofs.ArenaReached.{Reached}
 use Rattle.refinement.proofs.TakeWhole.{take-whole}
 use Rattle.pool.specs.Stock.{stockRoom, blank}
 use Rattle.pool.specs.Pool.{Pool, alloc, goes, carry, ends, callFor, bring, withStock, granted, noBlock}
-use Rattle.pool.specs.Told.{wishCall, asAnswer}
+use Rattle.pool.specs.Observed.{requestCall, asAnswer}
 use Rattle.pool.proofs.Lives as Lives
 use Rattle.pool.proofs.Apart.{out-apart, out-low, out-word}
 use Rattle.pool.proofs.Kept.{PoolInv, PoolKept, at-most, brought}
 use Rattle.pool.proofs.HeapCalls.{step-take, Within}
 use Rattle.pool.proofs.Frees.{took-done, took-few, took-within}
 use Rattle.poolcalls.specs.Stock.{countIn, entryIn, blockIn, filled}
-use Rattle.poolcalls.specs.Calls.{Said, said, bringOn, tookOn, allocOn}
+use Rattle.poolcalls.specs.Calls.{PoolReply, poolReply, bringOn, tookOn, allocOn}
 use Rattle.poolcalls.proofs.Laws.{in-stock}
 use Rattle.poolrefinement.specs.way.Represents.{StockRep, PoolRep, PoolAgrees}
 use Rattle.poolcalls.specs.HeapWords.{heapWord}
 use Rattle.poolrefinement.proofs.Frame.{class-frame, represents-still}
 use Rattle.poolrefinement.proofs.Stocks.{stock-still, Fresh, Off, filled-own, filled-other, filled-changes}
-use Rattle.poolrefinement.proofs.Wishes.{granule-of, stocks-with, code-zero, none-count}
+use Rattle.poolrefinement.proofs.Requests.{granule-of, stocks-with, code-zero, none-count}
 
 -- ---- the same by the blocks, the first popped first
-abbrev broughtOn : List ℕ → ℕ → List ℕ → Said
-broughtOn b c [] = said noBlock b
-broughtOn b c (w ∷ ws) = said (granted w) (filled b c (reverse ws))
+abbrev broughtOn : List ℕ → ℕ → List ℕ → PoolReply
+broughtOn b c [] = poolReply noBlock b
+broughtOn b c (w ∷ ws) = poolReply (granted w) (filled b c (reverse ws))
 
 reverse-last : (xs ys : List ℕ) (w : ℕ) → reverseAux (xs ++ (w ∷ [])) ys ≡ w ∷ reverseAux xs ys
 reverse-last [] ys w = refl
@@ -67,7 +67,7 @@ brought-on b c m l h =
     let w = getD l (m - 1) 0 in
     let lt : m - 1 < length l = omega (arith, ne) in
     let cut : reverse (ListN.take m l) ≡ w ∷ reverse (ListN.take (m - 1) l) = ap (λ j. reverse (ListN.take j l)) s ∙ ap reverse (take-suc l (m - 1) 0 lt) ∙ reverse-last (ListN.take (m - 1) l) [] w in
-    rw t (sym (ap (broughtOn b c) cut ∙ ap (λ x. said (granted w) (filled b c x)) (reverse-reverse (ListN.take (m - 1) l)))))
+    rw t (sym (ap (broughtOn b c) cut ∙ ap (λ x. poolReply (granted w) (filled b c x)) (reverse-reverse (ListN.take (m - 1) l)))))
 
 -- blocks that are the class's, in the arena, and no two alike
 fresh-of : (n c : ℕ) (ws st : List ℕ) → ((v : ℕ) → count v ws + count v st ≤ 1) → ((v : ℕ) → 1 ≤ count v ws → (v ≡ blockWord (shapeOf c .kind) (granuleOf v)) × (granuleOf v < 4096 * n)) → Fresh n c st ws
@@ -120,7 +120,7 @@ module _ (n : ℕ) (hn : n ≤ maxPages) (P : Pool) (b : List ℕ) (R : PoolRep 
     gs′ = Lives.next k c (Calls.take h blank) (asAnswer (granted w)) gs
 
     abbrev f′ : ℕ → Bool
-    f′ = directNext (wishCall c (alloc h)) (asAnswer (granted w)) f
+    f′ = directNext (requestCall c (alloc h)) (asAnswer (granted w)) f
 
     next : PoolKept n (suc k) P′ gs′ f′
     next = brought n m k P es gs f l K c hc h fine (w ∷ ws) e (took-done n P c h fine hc) bare
@@ -158,7 +158,7 @@ module _ (n : ℕ) (hn : n ≤ maxPages) (P : Pool) (b : List ℕ) (R : PoolRep 
       off-of [] z = tt
       off-of (v ∷ xs) z = (apart v (z v (rw (eq-eqb v v refl) (omega arith))), off-of xs (λ u q. z u (omega arith)))
 
-    filled-agrees : Reached n (o .heap) → PoolAgrees n (said (granted w) (filled (t .book) c (reverse ws))) (record { pool = P′; answer = granted w; calls = callFor c (Calls.take h blank) ∷ []; run = o .run })
+    filled-agrees : Reached n (o .heap) → PoolAgrees n (poolReply (granted w) (filled (t .book) c (reverse ws))) (record { pool = P′; answer = granted w; calls = callFor c (Calls.take h blank) ∷ []; run = o .run })
     filled-agrees reach = record {
       answer = refl;
       pool = record {

@@ -21,13 +21,13 @@ use Rattle.refinement.specs.Run.{callReply}
 use Rattle.refinement.proofs.OpenRep.{opened-represents, cleared-at}
 use Rattle.refinement.proofs.Whole.{call-whole}
 use Rattle.pool.specs.Pool.{Pool, newPool, PoolCall, Direct, to, direct, callBy, pass, poolStep, answered}
-use Rattle.pool.specs.Told.{poolFrom, poolAfter, poolEventsFrom, heapCalls}
+use Rattle.pool.specs.Observed.{poolFrom, poolAfter, poolEventsFrom, heapCalls}
 use Rattle.pool.proofs.OnHeap.{on-heap}
 use Rattle.pool.proofs.Conserved.{pool-append}
 use Rattle.poolcalls.specs.Stock.{countAt, countIn, stockFrom}
 use Rattle.poolrefinement.specs.way.Represents.{StockRep, PoolRep, PoolAgrees}
 use Rattle.poolcalls.specs.HeapWords.{heapWord}
-use Rattle.poolrefinement.specs.Run.{onCall, saidFrom, bookFrom}
+use Rattle.poolrefinement.specs.Run.{onCall, poolAnswersFrom, bookFrom}
 use Rattle.poolrefinement.specs.way.Runs.{PoolRuns}
 use Rattle.poolrefinement.proofs.Frame.{field-in, heap-frame}
 use Rattle.poolrefinement.proofs.Stocks.{stock-still, count-word}
@@ -96,7 +96,7 @@ module _ (n : ℕ) (hn : n ≤ maxPages) (rules : Rules) (xs : List PoolCall) (b
 
 -- ---- in turn
 record Goes (n : ℕ) (P : Pool) (b : List ℕ) (ys : List PoolCall) : Type 0 where
-  answers : saidFrom (onCall n) b ys ≡ map (λ v. v .answer) (poolEventsFrom n P ys)
+  answers : poolAnswersFrom (onCall n) b ys ≡ map (λ v. v .answer) (poolEventsFrom n P ys)
   book : PoolRep n (bookFrom (onCall n) b ys) (poolFrom n P ys)
 
 runs-on : (n : ℕ) → n ≤ maxPages → (rules : Rules) (xs ys : List PoolCall) (b : List ℕ) → PoolRep n b (poolAfter n rules xs) → Goes n (poolAfter n rules xs) b ys

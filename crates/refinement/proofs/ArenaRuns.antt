@@ -26,7 +26,7 @@ use Rattle.arena.specs.Owners.{ownerCode}
 use Rattle.arena.specs.Calls.{commitBook, given, grownBy, growBook}
 use Rattle.arena.specs.way.Represents.{ArenaRep}
 use Rattle.refinement.proofs.ArenaReached.{Reached, heapOf, above-nobody, idle-nobody}
-use Rattle.refinement.proofs.ArenaFair.{loads-frontier}
+use Rattle.refinement.proofs.ArenaValid.{loads-frontier}
 use Rattle.refinement.proofs.ArenaFrames.{isStep, inRunOf, either, passed, step-first, committed-changes, grown-changes, given-changes, names, whole-same, whole-names, named-whole}
 use Rattle.refinement.proofs.CommitRep.{commit-rep, grow-rep}
 use Rattle.refinement.proofs.GiveRep.{run-ends, give-rep}

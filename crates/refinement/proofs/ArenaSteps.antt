@@ -27,7 +27,7 @@ use Rattle.refinement.proofs.ArenaStore.{long-kept, load-kept, load-wri
 use Rattle.refinement.proofs.ArenaStored.{Stored, stored-changes, stored-written}
 use Rattle.refinement.proofs.ArenaFrames.{isOwner, own-changes, own-in}
 use Rattle.refinement.proofs.ArenaReached.{heapOf}
-use Rattle.refinement.proofs.ArenaFair.{loads-number}
+use Rattle.refinement.proofs.ArenaValid.{loads-number}
 use Rattle.refinement.proofs.ArenaHeld.{heldOf}
 
 pub record Stands (n : ℕ) (b : List ℕ) (a : Arena) (w : ℕ → Holder) (f k : ℕ) : Type 0 where

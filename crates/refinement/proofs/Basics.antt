@@ -10,7 +10,7 @@ use Rattle.classes.specs.declared.Shape.{Shape}
 use Rattle.classes.specs.way.Sound.{Sound}
 use Rattle.fields.specs.Field.{words}
 use Rattle.words.specs.Host.{digit}
-pub use Rattle.pages.proofs.Downs.{digit-true, digit-false, digit-le, digit-cases, eq-cases}
+pub use Rattle.pages.proofs.Descending.{digit-true, digit-false, digit-le, digit-cases, eq-cases}
 
 pub record Setting (n : ℕ) (b : List ℕ) (c : ℕ) (sh : Shape) : Type 0 where
   pub long : leb (words n) (length b) ≡ true

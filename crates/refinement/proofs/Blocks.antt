@@ -1,6 +1,6 @@
 -- Lists of block indices, and the stack that holds them.
---     few-counts      a list that has each index below k at most once, and no other, is no longer than k
---     tops-take       the top entries of a stack that is represented
+--     few-counts            a list that has each index below k at most once, and no other, is no longer than k
+--     top-entries-take      the top entries of a stack that is represented
 use Prim.Native.Nat.{ℕ, zero, suc, _+_, _≤_}
 use native.Mathlib.Omega.{arith}
 use native.Mathlib.Nat.{zero-add}
@@ -16,9 +16,9 @@ use Rattle.classes.specs.declared.Shape.{Shape}
 use Rattle.model.specs.Page.{wordOf, wordsFrom}
 use Rattle.model.proofs.Sums.{total-plus}
 use Rattle.words.specs.Host.{digit}
-use Rattle.pages.specs.Stack.{tops, downs}
-use Rattle.pages.proofs.Downs.{digit-true, digit-false, digit-cases, eq-cases}
-pub use Rattle.pages.proofs.Downs.{length-downs, count-downs}
+use Rattle.pages.specs.Stack.{topEntries, descending}
+use Rattle.pages.proofs.Descending.{digit-true, digit-false, digit-cases, eq-cases}
+pub use Rattle.pages.proofs.Descending.{length-descending, count-descending}
 use Rattle.model.proofs.Used.{itself}
 use Rattle.refinement.specs.way.Represents.{Slots}
 use Rattle.refinement.proofs.Basics.{Setting}
@@ -52,13 +52,13 @@ module _ (f : ℕ → ℕ) where
   length-map (x ∷ s) = ap suc (length-map s)
 
 -- ---- blocks just carved
-pub words-downs : (sh : Shape) (q a k : ℕ) → wordsFrom sh q a k ≡ map (wordOf sh q) (downs a k)
-words-downs sh q a zero = refl
-words-downs sh q a (suc k) = ap (λ l. wordOf sh q (a + k) ∷ l) (words-downs sh q a k)
+pub words-descending : (sh : Shape) (q a k : ℕ) → wordsFrom sh q a k ≡ map (wordOf sh q) (descending a k)
+words-descending sh q a zero = refl
+words-descending sh q a (suc k) = ap (λ l. wordOf sh q (a + k) ∷ l) (words-descending sh q a k)
 
 -- from 0 on
-pub count-downs-zero : (j k : ℕ) → count j (downs 0 k) ≡ digit (ltb j k)
-count-downs-zero j k = omega (arith, count-downs j 0 k, digit-false j 0 (omega arith), ap (λ z. digit (ltb j z)) (zero-add k))
+pub count-descending-zero : (j k : ℕ) → count j (descending 0 k) ≡ digit (ltb j k)
+count-descending-zero j k = omega (arith, count-descending j 0 k, digit-false j 0 (omega arith), ap (λ z. digit (ltb j z)) (zero-add k))
 
 -- ---- how long a list is by its counts
 total-one : (x m : ℕ) → total (λ i. cond (eqb i x) 1 0) (below m) ≡ digit (ltb x m)
@@ -102,10 +102,10 @@ every-counts m (i ∷ is) h =
     (every-counts m is (λ j l. let z = h j l in omega arith))
 
 -- ---- the stack
-pub tops-take : (b : List ℕ) (q m : ℕ) (xs : List ℕ) → Slots b q xs → tops b q m (length xs) ≡ take m xs
-tops-take b q zero xs s = refl
-tops-take b q (suc m) [] s = refl
-tops-take b q (suc m) (x ∷ xs) s = rw (s .0) (ap (λ l. x ∷ l) (tops-take b q m xs (s .2)))
+pub top-entries-take : (b : List ℕ) (q m : ℕ) (xs : List ℕ) → Slots b q xs → topEntries b q m (length xs) ≡ take m xs
+top-entries-take b q zero xs s = refl
+top-entries-take b q (suc m) [] s = refl
+top-entries-take b q (suc m) (x ∷ xs) s = rw (s .0) (ap (λ l. x ∷ l) (top-entries-take b q m xs (s .2)))
 
 pub slots-drop : (b : List ℕ) (q m : ℕ) (xs : List ℕ) → Slots b q xs → Slots b q (drop m xs)
 slots-drop b q zero xs s = s

@@ -17,7 +17,7 @@ use Rattle.model.specs.Class.{Class}
 use Rattle.model.specs.Heap.{Heap}
 use Rattle.refinement.specs.way.Represents.{StateRep, Represents}
 use Rattle.refinement.proofs.ArenaReached.{Reached, heapOf}
-use Rattle.refinement.proofs.ArenaFair.{loads-frontier}
+use Rattle.refinement.proofs.ArenaValid.{loads-frontier}
 use Rattle.refinement.proofs.ArenaSteps.{rep-classes}
 use Rattle.refinement.proofs.GiveClass.{arena-only}
 use Rattle.refinement.proofs.Basics.{Setting}

@@ -1,6 +1,6 @@
 -- A group release, whole: on a book that stands for a reached heap it has the model's answer, is never refused by number 13, and
 -- leaves a book that stands for the model's next heap. n is at most the longest arena, c a small class.
---     chunks-fair      number 13's tests pass
+--     chunks-valid     number 13's tests pass
 --     chunks-whole     every group release, refused or not, of any fates, the gives included
 --     chunks-after     the same after any history
 use Prim.Native.Nat.{ℕ, _+_, _≤_}
@@ -31,22 +31,22 @@ use Rattle.model.specs.Heap.{Heap, offer, finish, interact, classCall, heldPage
 use Rattle.model.specs.History.{heapAfter}
 use Rattle.model.proofs.Find.{pageIn, located-first}
 use Rattle.calls.specs.Out.{outAt}
-use Rattle.calls.specs.Release.{pageFair}
-use Rattle.calls.specs.Chunks.{blocksOn, chunksMatch, returnsAll, runsGiven, pagesGiven, chunksFair, settleChunks, giveRuns, ChunksReleased, chunksNone, releaseChunks}
+use Rattle.calls.specs.Release.{pageValid}
+use Rattle.calls.specs.Chunks.{blocksOn, chunksMatch, returnsAll, runsGiven, pagesGiven, chunksValid, settleChunks, giveRuns, ChunksReleased, chunksNone, releaseChunks}
 use Rattle.refinement.specs.way.Represents.{Represents}
 use Rattle.refinement.specs.Direct.{Agrees}
 use Rattle.refinement.specs.Releases.{chunksReply}
 use Rattle.refinement.proofs.Basics.{Setting, setting-kept}
 use Rattle.refinement.proofs.Frames.{ofClass}
 use Rattle.refinement.proofs.ArenaReached.{Reached, reached-after}
-use Rattle.refinement.proofs.ArenaFair.{give-passes}
+use Rattle.refinement.proofs.ArenaValid.{give-passes}
 use Rattle.refinement.proofs.Draw.{free-length}
 use Rattle.refinement.proofs.Book.{setting-of, represents-class}
 use Rattle.refinement.proofs.Found.{Located, located, located-passes, At, found-at, placed-rep, outs-here}
 use Rattle.refinement.proofs.OutTests.{once-here, fault-same}
 use Rattle.refinement.proofs.Returned.{none-count, return-only, return-rep, return-room}
 use Rattle.refinement.proofs.Release.{length-firsts}
-use Rattle.refinement.proofs.ReleaseFair.{row-fair, page-fair, frontier-fair}
+use Rattle.refinement.proofs.ReleaseValid.{row-valid, page-valid, frontier-valid}
 use Rattle.refinement.proofs.ReleaseGives.{all-held, all-given}
 use Rattle.refinement.proofs.ChunkTests.{same-blocks, chunks-same}
 use Rattle.refinement.proofs.Chunks.{every-blocks, once-blocks, Waits, ChunksRep, chunks-rep}
@@ -89,8 +89,8 @@ module _ (n : ℕ) (hn : n ≤ maxPages) (b : List ℕ) (H : Heap) (R : Represen
           let bs = Model.blocksOn (shapeOf c) ws (f .site .page) in
           omega (arith, f .number, return-room s hn (placed-rep (f .at .placed)) (Model.blocksOn (shapeOf c) ws (f .site .page)) (every-blocks (shapeOf c) ws (f .site .page)) (once-blocks (shapeOf c) ws once (f .site .page)))
 
-      fair : pageFair b (shapeOf c) (countOf g) (pageOf g) ≡ true
-      fair = subst (λ (q : ℕ). pageFair b (shapeOf c) (countOf g) q ≡ true) (f .here) (page-fair s (countOf g) room (f .at .placed))
+      valid : pageValid b (shapeOf c) (countOf g) (pageOf g) ≡ true
+      valid = subst (λ (q : ℕ). pageValid b (shapeOf c) (countOf g) q ≡ true) (f .here) (page-valid s (countOf g) room (f .at .placed))
 
       all-back : returnsAll b g ≡ noneOut (shapeOf c) (returned (Model.blocksOn (shapeOf c) ws (f .site .page)) (f .site .page))
       unfolding returned
@@ -122,11 +122,11 @@ module _ (n : ℕ) (hn : n ≤ maxPages) (b : List ℕ) (H : Heap) (R : Represen
     unfolding Model.chunkFits
     fitting g e = fits-at g (locate (startsAt (pageOf g)) (H .classes c)) refl (located (startsAt (pageOf g)) (H .classes c)) e
 
-    all-fair : (gs : List ℕ) → every (Model.chunkFits (shapeOf c) (H .classes c) ws) gs ≡ true → every (λ g. pageFair b (shapeOf c) (countOf g) (pageOf g)) gs ≡ true
-    all-fair [] e = refl
-    all-fair (g ∷ gs) e =
+    all-valid : (gs : List ℕ) → every (Model.chunkFits (shapeOf c) (H .classes c) ws) gs ≡ true → every (λ g. pageValid b (shapeOf c) (countOf g) (pageOf g)) gs ≡ true
+    all-valid [] e = refl
+    all-valid (g ∷ gs) e =
         let t = Model.chunkFits (shapeOf c) (H .classes c) ws in
-        rw (fair g (fitting g (and-left (t g) (every t gs) e)), all-fair gs (and-right (t g) (every t gs) e))
+        rw (valid g (fitting g (and-left (t g) (every t gs) e)), all-valid gs (and-right (t g) (every t gs) e))
 
     pub all-wait : (gs : List ℕ) → every (Model.chunkFits (shapeOf c) (H .classes c) ws) gs ≡ true → All (Waits (shapeOf c) ws b (H .classes c)) gs
     all-wait [] e = tt
@@ -146,13 +146,13 @@ module _ (n : ℕ) (hn : n ≤ maxPages) (b : List ℕ) (H : Heap) (R : Represen
           rw (R .rules c hc .same, r .store .number, length-firsts (reused (shapeOf c)) (H .classes c .empty), r .beside .number, length-firsts (thawed (shapeOf c)) (H .classes c .cold), w .number)
           (all-held n b H R ok c hc (settleChunks b c (shapeOf c) h ws gs .book) (w .only) (Model.settleChunks (shapeOf c) (H .rules c) h ws (H .classes c) gs .class) (w .pages) (w .rep))
 
-      pub chunks-fair : chunksFair n b c (shapeOf c) gs ≡ true
-      unfolding chunksFair
-      chunks-fair =
+      pub chunks-valid : chunksValid n b c (shapeOf c) gs ≡ true
+      unfolding chunksValid
+      chunks-valid =
           rw (
-            frontier-fair n b H R ok c,
-            all-fair gs fits,
-            row-fair s (R .classes c hc) (R .rules c hc),
+            frontier-valid n b H R ok c,
+            all-valid gs fits,
+            row-valid s (R .classes c hc) (R .rules c hc),
             give-passes n b H (R .arena) ok (pagesGiven b c (shapeOf c) gs) given-held,
           )
           (by-cases (eqb (pagesGiven b c (shapeOf c) gs) 0) (λ e. rw e) (λ e. rw e))
@@ -167,7 +167,7 @@ module _ (n : ℕ) (hn : n ≤ maxPages) (b : List ℕ) (H : Heap) (R : Represen
           let w = all-settled in
           record {
             answer = ap (λ l. fates (l ++ drop (length gs) fs)) (w .fates);
-            fair = λ e. omega arith;
+            valid = λ e. omega arith;
             heap = rw (w .gives)
                 (all-given n b H R ok c hc (settleChunks b c (shapeOf c) h ws gs .book) (w .only) (Model.settleChunks (shapeOf c) (H .rules c) h ws (H .classes c) gs .class) (w .pages) (w .rep)
                 (Model.settleChunks (shapeOf c) (H .rules c) h ws (H .classes c) gs .gives) (w .named));
@@ -179,7 +179,7 @@ module _ (n : ℕ) (hn : n ≤ maxPages) (b : List ℕ) (H : Heap) (R : Represen
     unfolding interact offer finish
     denied k e ne = record {
       answer = rw e;
-      fair = ne;
+      valid = ne;
       heap = represents-class n b H R ok b c (H .classes c) (changes-none (ofClass b c) b) (R .classes c hc);
     }
 
@@ -192,7 +192,7 @@ module _ (n : ℕ) (hn : n ≤ maxPages) (b : List ℕ) (H : Heap) (R : Represen
     past-ten : every (ofKind (shapeOf c .kind)) ws ≡ true → every (outAt n b c (shapeOf c)) ws ≡ true → distinct ws ≡ true
         → Agrees (Represents n) (chunksReply
         (cond (not (chunksMatch b ws gs)) (chunksNone b fs 11)
-        (cond (not (chunksFair n b c (shapeOf c) gs)) (chunksNone b fs 13)
+        (cond (not (chunksValid n b c (shapeOf c) gs)) (chunksNone b fs 13)
         (let w = settleChunks b c (shapeOf c) h ws gs in
         record { code = 0; book = giveRuns (w .book) (shapeOf c .pages) (w .gives); fates = w .fates ++ drop (length gs) fs }))))
         (interact n H c h
@@ -208,7 +208,7 @@ module _ (n : ℕ) (hn : n ≤ maxPages) (b : List ℕ) (H : Heap) (R : Represen
         (λ e. let u = not-false (t₁ && (t₂ && t₃)) e in
         let fits = and-left t₂ t₃ (and-right t₁ (t₂ && t₃) u) in
         let apart = and-left t₁ (t₂ && t₃) u in
-        rw (chunks-fair ws k o once h gs fits apart) (settled-agrees ws k o once h gs fits apart fs)))
+        rw (chunks-valid ws k o once h gs fits apart) (settled-agrees ws k o once h gs fits apart fs)))
 
     chunks-agree : Agrees (Represents n) (chunksReply (releaseChunks n b c (shapeOf c) h ws gs fs)) (interact n H c h (Model.releaseChunks (shapeOf c) (H .rules c) h (H .classes c) ws gs fs))
     unfolding releaseChunks Model.releaseChunks

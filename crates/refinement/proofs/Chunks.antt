@@ -21,16 +21,16 @@ use Rattle.fields.specs.Ranges.{maxPages}
 use Rattle.model.specs.Page.{Page, isMedium, isOut, noneOut, returned, retire}
 use Rattle.model.specs.Class.{Class}
 use Rattle.model.specs.Release as Release
-use Rattle.model.specs.Release.{Site, Settled, inPartial, inFull, locate, spotIn, parkIn, park, settle}
+use Rattle.model.specs.Release.{Site, Settled, inPartial, inFull, locate, destinationIn, parkIn, park, settle}
 use Rattle.model.specs.Chunks as Model
 use Rattle.model.specs.Chunks.{startsAt, settleChunk, AllSettled}
 use Rattle.model.proofs.Counts.{filter-le, distinct-count}
 use Rattle.model.proofs.Find.{firstOf, pageIn, located-first, Skips, partial-skips, full-skips}
 use Rattle.words.specs.Host.{digit}
 use Rattle.pages.specs.Stack.{indexOf}
-use Rattle.model.specs.declared.Spot.{Spot}
-use Rattle.model.specs.declared.Spot.the-variants.{ToEmpty, ToCold, ToArena}
-use Rattle.model.specs.Spot.{isEmpty, isCold, isArena}
+use Rattle.model.specs.declared.Destination.{Destination}
+use Rattle.model.specs.declared.Destination.the-variants.{ToEmpty, ToCold, ToArena}
+use Rattle.model.specs.Destination.{isEmpty, isCold, isArena}
 use Rattle.calls.specs.Out.{startOf}
 use Rattle.calls.specs.Release.{Released}
 use Rattle.calls.specs.Chunks as Words
@@ -42,22 +42,22 @@ use Rattle.refinement.proofs.Moves.{full-in}
 use Rattle.refinement.proofs.Found.{Located, inList, inNone, located, located-passes, Away, found-at}
 use Rattle.refinement.proofs.Release.{SettledRep, stays, goes, settle-chunk}
 
--- what settling a page adds, where e empty and k cold pages were: a page to the store that the spot names, or a run for the arena
-pub record Adds (e k : ℕ) (spot : Spot) (gone : Bool) (y : Settled) : Type 0 where
-  pub empty : length (y .class .empty) ≡ cond gone (e + digit (isEmpty spot)) e
-  pub cold : length (y .class .cold) ≡ cond gone (k + digit (isCold spot)) k
-  pub gives : length (y .gives) ≡ cond gone (digit (isArena spot)) 0
+-- what settling a page adds, where e empty and k cold pages were: a page to the store that the destination names, or a run for the arena
+pub record Adds (e k : ℕ) (destination : Destination) (gone : Bool) (y : Settled) : Type 0 where
+  pub empty : length (y .class .empty) ≡ cond gone (e + digit (isEmpty destination)) e
+  pub cold : length (y .class .cold) ≡ cond gone (k + digit (isCold destination)) k
+  pub gives : length (y .gives) ≡ cond gone (digit (isArena destination)) 0
 
 -- ---- the model's settling of one page
 module _ (sh : Shape) (lim : Limits) (h : ℕ) where
-  in-skips : (s : Class) (p : Page) (u : Page → Bool) (t : Spot) → firstOf u (parkIn sh h s p t .class) ≡ firstOf u s
+  in-skips : (s : Class) (p : Page) (u : Page → Bool) (t : Destination) → firstOf u (parkIn sh h s p t .class) ≡ firstOf u s
   in-skips s p u ToEmpty = refl
   in-skips s p u ToCold = refl
   in-skips s p u ToArena = refl
 
   park-skips : (s : Class) (p : Page) (u : Page → Bool) → firstOf u (park sh lim h s p .class) ≡ firstOf u s
   unfolding park
-  park-skips s p u = in-skips s p u (spotIn sh lim s)
+  park-skips s p u = in-skips s p u (destinationIn sh lim s)
 
   skips : {t : Page → Bool} {s : Class} {x : Site} → Located t s (some x) → Skips s x
   skips {t} {s} (inList f k) = partial-skips t s f k
@@ -72,17 +72,17 @@ module _ (sh : Shape) (lim : Limits) (h : ℕ) where
       (λ e. rw e (park-skips (x .without) (retire (x .page)) (startsAt r) ∙ k .without (startsAt r) ne))
       (λ e. rw e (k .with (startsAt r) (returned ws (x .page)) ne ne))
 
-  in-adds : (s : Class) (p : Page) (t : Spot) → Adds (length (s .empty)) (length (s .cold)) t true (Release.markRetired (parkIn sh h s p t))
+  in-adds : (s : Class) (p : Page) (t : Destination) → Adds (length (s .empty)) (length (s .cold)) t true (Release.setRetired (parkIn sh h s p t))
   in-adds s p ToEmpty = record { empty = omega arith; cold = omega arith; gives = refl }
   in-adds s p ToCold = record { empty = omega arith; cold = omega arith; gives = refl }
   in-adds s p ToArena = record { empty = omega arith; cold = omega arith; gives = refl }
 
-  park-adds : (s : Class) (p : Page) → Adds (length (s .empty)) (length (s .cold)) (spotIn sh lim s) true (Release.markRetired (park sh lim h s p))
+  park-adds : (s : Class) (p : Page) → Adds (length (s .empty)) (length (s .cold)) (destinationIn sh lim s) true (Release.setRetired (park sh lim h s p))
   unfolding park
-  park-adds s p = in-adds s p (spotIn sh lim s)
+  park-adds s p = in-adds s p (destinationIn sh lim s)
 
   pub settle-adds : {t : Page → Bool} {s : Class} {x : Site} → Located t s (some x) → (ws : List ℕ)
-      → Adds (length (s .empty)) (length (s .cold)) (spotIn sh lim s) (noneOut sh (returned ws (x .page))) (settle sh lim h true ws x)
+      → Adds (length (s .empty)) (length (s .cold)) (destinationIn sh lim s) (noneOut sh (returned ws (x .page))) (settle sh lim h true ws x)
   unfolding settle inPartial inFull
   settle-adds {s = s} (inList f k) ws =
       by-cases (noneOut sh (returned ws (f .page))) (λ e. rw e (park-adds (inPartial s f .without) (retire (f .page))))

@@ -21,7 +21,7 @@ use Rattle.arena.specs.Calls.{advance, passedTo, committed, commitBook, commitF
 use Rattle.arena.specs.way.Represents.{ArenaRep}
 use Rattle.refinement.proofs.ArenaStored.{Stored, commit-stored, grow-stored, stored-few}
 use Rattle.refinement.proofs.ArenaReached.{Reached, heapOf, idle-once, above-nobody}
-use Rattle.refinement.proofs.ArenaFair.{loads-frontier, commit-passes}
+use Rattle.refinement.proofs.ArenaValid.{loads-frontier, commit-passes}
 use Rattle.refinement.proofs.ArenaHeld.{held-more}
 use Rattle.refinement.proofs.ArenaSteps.{Stands, rep-stands, stands-rep, store-stands, own-stands, fresh-stands, held-stands}
 

@@ -23,7 +23,7 @@ use Rattle.model.proofs.IdlePages.{commit-below}
 use Rattle.pages.specs.Runs.{whole}
 use Rattle.arena.specs.way.Represents.{ArenaRep}
 use Rattle.refinement.proofs.ArenaReached.{Reached, heapOf, idle-once, idle-nobody}
-use Rattle.refinement.proofs.ArenaFair.{loads-frontier}
+use Rattle.refinement.proofs.ArenaValid.{loads-frontier}
 use Rattle.refinement.proofs.ArenaFrames.{whole-names, whole-ends}
 use Rattle.refinement.proofs.ArenaRuns.{class-other, drawn-whole, claimed-others, claimed-new}
 

@@ -26,7 +26,7 @@ use Rattle.model.proofs.Counts.{elem-count, count-elem, count-not}
 use Rattle.model.proofs.Pages.{word-rises}
 use Rattle.model.proofs.Apart.{which}
 use Rattle.words.specs.Host.{digit}
-use Rattle.pages.specs.Stack.{marked, blocksFrom, indexOf, pageAt, isBlock}
+use Rattle.pages.specs.Stack.{outBit, blocksFrom, indexOf, pageAt, isBlock}
 use Rattle.calls.specs.Out.{startOf, outIn, inRunOf, outAt}
 use Rattle.refinement.specs.way.Represents.{PageRep}
 use Rattle.refinement.proofs.Basics.{Setting, digit-cases}
@@ -100,12 +100,12 @@ pub record Sits (b : List ℕ) (sh : Shape) (q w : ℕ) : Type 0 where
   pub index : ℕ
   pub inside : index < sh .capacity
   pub names : w ≡ wordOf sh q index
-  pub set : marked b sh q index ≡ 1
+  pub set : outBit b sh q index ≡ 1
 
 -- what `outIn` says, whatever stands in the book
 module _ (b : List ℕ) {sh : Shape} (ok : Sound sh) (q w : ℕ) where
   pub in-sits : ofKind (sh .kind) w ≡ true → outIn b sh q w ≡ true → Sits b sh q w
-  unfolding outIn isBlock marked
+  unfolding outIn isBlock outBit
   in-sits k e =
       let i = indexOf sh q w in
       let t₁ = leb (blocksFrom sh q) (granuleOf w) in
@@ -123,7 +123,7 @@ module _ (b : List ℕ) {sh : Shape} (ok : Sound sh) (q w : ℕ) where
       }
 
   pub sits-in : q + sh .pages ≤ maxPages → Sits b sh q w → outIn b sh q w ≡ true
-  unfolding outIn isBlock marked
+  unfolding outIn isBlock outBit
   sits-in low s =
       let i = s .index in
       let u = lt-ltb (s .index) (sh .capacity) (s .inside) in
@@ -166,7 +166,7 @@ module _ {n : ℕ} {b : List ℕ} {c : ℕ} {sh : Shape} (s : Setting n b c sh) 
           (ap not (count-not w (p .free) (ap (λ z. count z (p .free)) (t .names) ∙ free-count i ∙ none i u e (t .set)))))
           (λ u e. absurd (omega (arith, r .holds .outs (t .index), t .set)))
         where
-          none : (i : ℕ) → i < p .carved → digit (ltb i (p .carved)) ≡ 1 → marked b sh (p .first) i ≡ 1 → count i (r .stack) ≡ 0
+          none : (i : ℕ) → i < p .carved → digit (ltb i (p .carved)) ≡ 1 → outBit b sh (p .first) i ≡ 1 → count i (r .stack) ≡ 0
           none i u e m = omega (arith, r .holds .outs i)
 
       pub sits-start : startOf b w ≡ p .first

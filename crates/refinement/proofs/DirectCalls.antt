@@ -32,10 +32,10 @@ use Rattle.refinement.specs.way.Represents.{Represents}
 use Rattle.refinement.specs.Direct.{Reply, reply, commitReply, growReply, releaseReply, directReply, Agrees}
 use Rattle.refinement.proofs.ArenaHolders.{isKnown}
 use Rattle.refinement.proofs.ArenaReached.{Reached, held-below}
-use Rattle.refinement.proofs.ArenaFair.{loads-frontier, record-passes, grow-passes}
+use Rattle.refinement.proofs.ArenaValid.{loads-frontier, record-passes, grow-passes}
 use Rattle.refinement.proofs.ArenaFrames.{isStep, inRunOf, either, passed, committed-changes, grown-changes, step-rule}
 use Rattle.refinement.proofs.CommitRep.{commit-for, commit-rep, grow-rep}
-use Rattle.refinement.proofs.GiveRep.{give-fair, give-rep}
+use Rattle.refinement.proofs.GiveRep.{give-valid, give-rep}
 use Rattle.refinement.proofs.ArenaRuns.{isOf, direct-other, commit-whole, grow-whole, given-step, give-whole}
 use Rattle.refinement.proofs.ArenaKeeps.{step-class}
 use Rattle.refinement.proofs.Reported.{Classes, report-passes, parked-same}
@@ -112,7 +112,7 @@ module _ (n : ℕ) (b : List ℕ) (H : Heap) (rep : ArenaRep n b H) (r : Reached
   -- a call that changes nothing
   settle-same : (k : ℕ) → (k ≡ 13 → ⊥) → (x : Answer) → Settled (record { code = k; answer = x; book = b }) (unchanged H x)
   settle-same k ne x = record {
-    agrees = record { answer = refl; fair = ne; heap = rep };
+    agrees = record { answer = refl; valid = ne; heap = rep };
     beside = record { pages = λ x. false; changes = changes-none (isStep (λ x. false)) b; runs = λ sh d x l hd. refl };
     classes = refl;
     rules = refl;
@@ -130,7 +130,7 @@ module _ (n : ℕ) (b : List ℕ) (H : Heap) (rep : ArenaRep n b H) (r : Reached
       let g = Model.commit n h m (H .arena) in
       rw (commit-for n b H rep r h m (ownerCode direct))
       (record {
-        agrees = record { answer = refl; fair = λ z. omega arith; heap = commit-rep n b H rep r h m one direct refl (H .classes) };
+        agrees = record { answer = refl; valid = λ z. omega arith; heap = commit-rep n b H rep r h m one direct refl (H .classes) };
         beside = record {
           pages = either (passed b (g .arena)) (inRunOf m (g .run));
           changes = committed-changes n b h m (H .arena) (r .tidy .slots) (ownerCode direct);
@@ -150,7 +150,7 @@ module _ (n : ℕ) (b : List ℕ) (H : Heap) (rep : ArenaRep n b H) (r : Reached
       let g = Model.grow n h (q + old) (new - old) (H .arena) in
       rw (grow-passes n b H rep r h (q + old) (new - old), rep .loads)
       (record {
-        agrees = record { answer = refl; fair = λ z. omega arith; heap = grow-rep n b H rep r h (new - old) one (q + old) (H .classes) };
+        agrees = record { answer = refl; valid = λ z. omega arith; heap = grow-rep n b H rep r h (new - old) one (q + old) (H .classes) };
         beside = record {
           pages = either (passed b (g .arena)) (inRunOf (new - old) (grownBy (g .grew) (q + old)));
           changes = grown-changes n b h (new - old) (H .arena) (r .tidy .slots) (q + old);
@@ -174,9 +174,9 @@ module _ (n : ℕ) (b : List ℕ) (H : Heap) (rep : ArenaRep n b H) (r : Reached
       (settle-cond releaseReply (not (Heaps.heldDirect n H q m)) _ _ _ _ (λ c. settle-refused 12 (λ z. omega arith))
       (λ c. let t = not-false (Heaps.heldDirect n H q m) c in
       let k = direct-holds q m one t in
-      rw (give-fair n b H rep r q m one k)
+      rw (give-valid n b H rep r q m one k)
       (record {
-        agrees = record { answer = refl; fair = λ z. omega arith; heap = give-rep n b H rep r q m one k (H .classes) };
+        agrees = record { answer = refl; valid = λ z. omega arith; heap = give-rep n b H rep r q m one k (H .classes) };
         beside = record {
           pages = inRun m q;
           changes = given-step n b H rep r q m one k;
@@ -215,7 +215,7 @@ direct-represents n b H rep r x =
     let c = directReply n b x .book in
     record {
       answer = s .agrees .answer;
-      fair = s .agrees .fair;
+      valid = s .agrees .valid;
       heap = record {
         arena = s .agrees .heap;
         classes = λ d hd. rw (s .classes)

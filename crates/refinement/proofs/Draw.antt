@@ -20,26 +20,26 @@ use Rattle.model.specs.Page as Model
 use Rattle.model.specs.Page.{Page, wordOf, pop}
 use Rattle.model.proofs.Counts.{count-append, count-reverse, count-cut}
 use Rattle.words.specs.Host.{digit}
-use Rattle.pages.specs.Stack.{marked, downs, marks, carvedNow, latest, draw, hasMore}
-use Rattle.pages.proofs.Downs.{digit-le, digit-false, length-downs, count-downs, every-below}
+use Rattle.pages.specs.Stack.{outBit, descending, setOuts, carvedNow, latest, draw, hasMore}
+use Rattle.pages.proofs.Descending.{digit-le, digit-false, length-descending, count-descending, every-below}
 use Rattle.pages.proofs.Draws.{draw-changes, draw-free, draw-carved}
-use Rattle.pages.proofs.Marks.{marks-at}
+use Rattle.pages.proofs.SetOuts.{set-outs-at}
 use Rattle.refinement.specs.way.Represents.{Holds, PageRep}
 use Rattle.refinement.proofs.Basics.{Setting}
 use Rattle.refinement.proofs.Frames.{isData, ofClass, Only, data-owns, whole-kept, whole-in, whole-owner, marked-kept, slots-kept}
-use Rattle.refinement.proofs.Blocks.{map-append, map-reverse, map-take, map-drop, length-map, words-downs, fits, in-row, every-counts, tops-take, slots-drop}
+use Rattle.refinement.proofs.Blocks.{map-append, map-reverse, map-take, map-drop, length-map, words-descending, fits, in-row, every-counts, top-entries-take, slots-drop}
 
 -- ---- the words
 module _ {n : ℕ} {b : List ℕ} {c : ℕ} {sh : Shape} (s : Setting n b c sh) {l q : ℕ} {xs : List ℕ} {k : ℕ} {v : Bool} (h : Holds n sh b c l q xs k v) (m : ℕ) where
-  pub latest-is : latest b sh q m ≡ downs k (min (m - length xs) (sh .capacity - k)) ++ reverse (take m xs)
+  pub latest-is : latest b sh q m ≡ descending k (min (m - length xs) (sh .capacity - k)) ++ reverse (take m xs)
   unfolding latest
-  latest-is = rw (h .ready, h .height, tops-take b q m xs (h .slots))
+  latest-is = rw (h .ready, h .height, top-entries-take b q m xs (h .slots))
 
-  latest-count : (j : ℕ) → count j (latest b sh q m) ≡ count j (downs k (min (m - length xs) (sh .capacity - k))) + count j (take m xs)
+  latest-count : (j : ℕ) → count j (latest b sh q m) ≡ count j (descending k (min (m - length xs) (sh .capacity - k))) + count j (take m xs)
   latest-count j = rw (latest-is, count-append, count-reverse)
 
   latest-size : length (latest b sh q m) ≡ min (m - length xs) (sh .capacity - k) + min m (length xs)
-  latest-size = rw (latest-is, length-append, length-downs, length-reverse, length-take)
+  latest-size = rw (latest-is, length-append, length-descending, length-reverse, length-take)
 
   pub latest-fit : every (fits sh) (latest b sh q m) ≡ true
   latest-fit =
@@ -49,7 +49,7 @@ module _ {n : ℕ} {b : List ℕ} {c : ℕ} {sh : Shape} (s : Setting n b c sh) 
         latest-count j,
         count-cut j m xs,
         h .outs j,
-        count-downs j k (min (m - length xs) (sh .capacity - k)),
+        count-descending j k (min (m - length xs) (sh .capacity - k)),
         digit-false j (k + min (m - length xs) (sh .capacity - k)) (omega (arith, h .within)),
         digit-false j k (omega (arith, h .within)),
       ))
@@ -68,16 +68,16 @@ module _ {n : ℕ} {b : List ℕ} {c : ℕ} {sh : Shape} (s : Setting n b c sh) 
   hq : ltb q n ≡ true
   hq = whole-in n b (s .shape) c q (h .run)
 
-  draw-marked : (j : ℕ) → _≡_ {A = ℕ} (marked (draw b sh q m) sh q j) (cond (eqb (count j (latest b sh q m)) 0) (marked b sh q j) 1)
+  draw-marked : (j : ℕ) → _≡_ {A = ℕ} (outBit (draw b sh q m) sh q j) (cond (eqb (count j (latest b sh q m)) 0) (outBit b sh q j) 1)
   unfolding draw
   draw-marked j =
-      marked-kept (marks b q 1 (latest b sh q m)) _ sh q j (λ e. let o = in-row s j e in simp get-put-other)
-      ∙ marks-at n b (s .long) q hq 1 refl sh (s .shape .few) (latest b sh q m) latest-fit j
+      marked-kept (setOuts b q 1 (latest b sh q m)) _ sh q j (λ e. let o = in-row s j e in simp get-put-other)
+      ∙ set-outs-at n b (s .long) q hq 1 refl sh (s .shape .few) (latest b sh q m) latest-fit j
 
-  draw-outs : (j : ℕ) → marked (draw b sh q m) sh q j + count j (drop m xs) ≡ digit (ltb j (k + min (m - length xs) (sh .capacity - k)))
+  draw-outs : (j : ℕ) → outBit (draw b sh q m) sh q j + count j (drop m xs) ≡ digit (ltb j (k + min (m - length xs) (sh .capacity - k)))
   draw-outs j =
       let o = h .outs j in
-      let d = count-downs j k (min (m - length xs) (sh .capacity - k)) in
+      let d = count-descending j k (min (m - length xs) (sh .capacity - k)) in
       let u = count-cut j m xs in
       let w = latest-count j in
       let f = digit-le (ltb j (k + min (m - length xs) (sh .capacity - k))) in
@@ -128,10 +128,10 @@ module _ {n : ℕ} {b : List ℕ} {c : ℕ} {sh : Shape} (s : Setting n b c sh) 
   unfolding pop
   pop-blocks =
       let f = wordOf sh (p .first) in
-      let new = downs (p .carved) (min (m - length (r .stack)) (sh .capacity - p .carved)) in
+      let new = descending (p .carved) (min (m - length (r .stack)) (sh .capacity - p .carved)) in
       ap (map f) (latest-is s (r .holds) m)
       ∙ map-append f new (reverse (take m (r .stack)))
-      ∙ rw (now-is r m, words-downs)
+      ∙ rw (now-is r m, words-descending)
       (ap (λ z. map f new ++ z) (map-reverse f (take m (r .stack)) ∙ ap reverse (map-take f m (r .stack) ∙ ap (take m) (sym (r .names)))))
 
   pub pop-length : length (latest b sh (p .first) m) ≡ length (pop sh m p .blocks)

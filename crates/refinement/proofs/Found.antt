@@ -139,25 +139,25 @@ module _ {n : ℕ} {b : List ℕ} {c : ℕ} {sh : Shape} {zs : List Page} where
     in-only (aside t f r) = rw (r .fulls .0 .holds .listing) (link-only s r)
 
 -- ---- a page of a list, by its first page
-pub record Spot (q : ℕ) (zs : List Page) : Type 0 where
+pub record Destination (q : ℕ) (zs : List Page) : Type 0 where
   pub before : List Page
   pub page : Page
   pub behind : List Page
   pub is : zs ≡ before ++ page ∷ behind
   pub here : page .first ≡ q
 
-spot-behind : (q : ℕ) (z : Page) (zs : List Page) → Spot q zs → Spot q (z ∷ zs)
-spot-behind q z zs r = record { before = z ∷ r .before; page = r .page; behind = r .behind; is = ap (λ l. z ∷ l) (r .is); here = r .here }
+destination-behind : (q : ℕ) (z : Page) (zs : List Page) → Destination q zs → Destination q (z ∷ zs)
+destination-behind q z zs r = record { before = z ∷ r .before; page = r .page; behind = r .behind; is = ap (λ l. z ∷ l) (r .is); here = r .here }
 
-pub spot : (q : ℕ) (zs : List Page) → 1 ≤ heads q zs → Spot q zs
-spot q [] h = absurd (omega arith)
-spot q (z ∷ zs) h =
+pub destination : (q : ℕ) (zs : List Page) → 1 ≤ heads q zs → Destination q zs
+destination q [] h = absurd (omega arith)
+destination q (z ∷ zs) h =
     by-cases (eqb q (z .first))
     (λ e. record { before = []; page = z; behind = zs; is = refl; here = sym (eqb-true q (z .first) e) })
-    (λ e. let y : 1 ≤ 0 + heads q zs = rw e at h in spot-behind q z zs (spot q zs (omega arith)))
+    (λ e. let y : 1 ≤ 0 + heads q zs = rw e at h in destination-behind q z zs (destination q zs (omega arith)))
 
-pub all-spot : (P : Page → Type 0) {q : ℕ} {zs : List Page} (t : Spot q zs) → All P zs → P (t .page)
-all-spot P t a = all-at P (t .before) (t .page) (t .behind) .0 (subst (All P) (t .is) a) .0
+pub all-destination : (P : Page → Type 0) {q : ℕ} {zs : List Page} (t : Destination q zs) → All P zs → P (t .page)
+all-destination P t a = all-at P (t .before) (t .page) (t .behind) .0 (subst (All P) (t .is) a) .0
 
 module _ {n : ℕ} {b : List ℕ} {c : ℕ} {sh : Shape} (s : Setting n b c sh) (hn : n ≤ maxPages) where
   -- on which page a block that is out in the class is
@@ -185,18 +185,18 @@ module _ {n : ℕ} {b : List ℕ} {c : ℕ} {sh : Shape} (s : Setting n b c sh) 
     some-out (some x) h e = let a = found-at {zs = []} r h in sits-at s hn (placed-rep (a .placed)) w (out-sits s hn (placed-rep (a .placed)) w (located-passes h))
 
     module _ (k : ofKind (sh .kind) w ≡ true) (o : outAt n b c sh w ≡ true) where
-      out-on : {l : ℕ} {zs : List Page} (p : Spot (startOf b w) zs) → PageRep n sh b c l (p .page) → isOut sh w (p .page) ≡ true
+      out-on : {l : ℕ} {zs : List Page} (p : Destination (startOf b w) zs) → PageRep n sh b c l (p .page) → isOut sh w (p .page) ≡ true
       out-on p rp = same-page rp w k o ∙ eq-eqb (startOf b w) (p .page .first) (sym (p .here))
 
       not-among : (l : ℕ) (zs : List Page) → All (PageRep n sh b c l) zs → All (λ p. isOut sh w p ≡ false) zs → 1 ≤ heads (startOf b w) zs → ⊥
       not-among l zs a f h =
-          let p = spot (startOf b w) zs h in
-          true≢false (sym (out-on p (all-spot (PageRep n sh b c l) p a)) ∙ all-spot (λ p. isOut sh w p ≡ false) p f)
+          let p = destination (startOf b w) zs h in
+          true≢false (sym (out-on p (all-destination (PageRep n sh b c l) p a)) ∙ all-destination (λ p. isOut sh w p ≡ false) p f)
 
       not-parked : (zs : List Page) → All (Parked n sh b c) zs → 1 ≤ heads (startOf b w) zs → ⊥
       not-parked zs a h =
-          let p = spot (startOf b w) zs h in
-          let rp = all-spot (Parked n sh b c) p a in
+          let p = destination (startOf b w) zs h in
+          let rp = all-destination (Parked n sh b c) p a in
           let i = out-sits s hn (rp .rep) w (out-on p (rp .rep)) in
           omega (arith, i .set, rp .idle (i .index))
 

@@ -22,7 +22,7 @@ use Rattle.fields.specs.Field.{Field, arena, class, hole, page, mark, slot, out
 use Rattle.rules.specs.declared.Limits.{Limits}
 use Rattle.fields.proofs.Changes.{Changes, changes-trans, changes-mono}
 use Rattle.pages.specs.Runs.{ofRun, whole}
-use Rattle.pages.specs.Stack.{marked}
+use Rattle.pages.specs.Stack.{outBit}
 use Rattle.refinement.specs.way.Represents.{Slots, RuleRep}
 
 -- ---- runs
@@ -159,8 +159,8 @@ data-owns q h = record {
 
 -- ---- out bits and stacks
 module _ (b b′ : List ℕ) where
-  pub marked-kept : (sh : Shape) (q i : ℕ) → (ltb i (sh .capacity) ≡ true → get b′ (out q i) ≡ get b (out q i)) → marked b′ sh q i ≡ marked b sh q i
-  unfolding marked
+  pub marked-kept : (sh : Shape) (q i : ℕ) → (ltb i (sh .capacity) ≡ true → get b′ (out q i) ≡ get b (out q i)) → outBit b′ sh q i ≡ outBit b sh q i
+  unfolding outBit
   marked-kept sh q i k = by-cases (ltb i (sh .capacity)) (λ e. rw e (k e)) (λ e. rw e)
 
   pub slots-kept : (q : ℕ) (xs : List ℕ) → ((i : ℕ) → ltb i 4096 ≡ true → get b′ (slot q i) ≡ get b (slot q i)) → Slots b q xs → Slots b′ q xs

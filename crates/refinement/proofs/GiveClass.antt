@@ -31,7 +31,7 @@ use Rattle.refinement.specs.way.Represents.{ClassRep, StateRep, Represen
 use Rattle.refinement.proofs.Frames.{ofClass, Only, only-rule}
 use Rattle.refinement.proofs.Kept.{class-beside}
 use Rattle.refinement.proofs.ArenaReached.{Reached, heapOf}
-use Rattle.refinement.proofs.ArenaFair.{loads-frontier}
+use Rattle.refinement.proofs.ArenaValid.{loads-frontier}
 use Rattle.refinement.proofs.ArenaFrames.{whole-names, whole-ends, step-rule}
 use Rattle.refinement.proofs.ArenaSteps.{isArenas, rep-kept}
 use Rattle.refinement.proofs.ArenaRuns.{given-step}

@@ -1,6 +1,6 @@
 -- A run that is held goes to the arena, on the words as in the model: from a class or from the direct calls.
---     give-rep     the book afterwards stands for the model's arena, and the run is nobody's
---     give-fair    number 13's test for it passes
+--     give-rep      the book afterwards stands for the model's arena, and the run is nobody's
+--     give-valid    number 13's test for it passes
 use Prim.Native.Nat.{ℕ, _+_, _-_, _≤_}
 use native.Mathlib.Omega.{arith}
 use mathlib.Core.Bool.{true}
@@ -16,12 +16,12 @@ use Rattle.model.proofs.ArenaTidy.{tidy-give}
 use Rattle.model.proofs.ArenaLaws.{give-frontier}
 use Rattle.arena.specs.Store.{storeArena}
 use Rattle.arena.specs.Owners.{own}
-use Rattle.arena.specs.Fair.{giveFair}
+use Rattle.arena.specs.Valid.{giveValid}
 use Rattle.arena.specs.Calls.{given}
 use Rattle.arena.specs.way.Represents.{ArenaRep}
 use Rattle.refinement.proofs.ArenaStored.{once}
 use Rattle.refinement.proofs.ArenaReached.{Reached, heapOf, held-below}
-use Rattle.refinement.proofs.ArenaFair.{give-passes}
+use Rattle.refinement.proofs.ArenaValid.{give-passes}
 use Rattle.refinement.proofs.ArenaHeld.{heldOf, held-less}
 use Rattle.refinement.proofs.ArenaSteps.{Stands, rep-stands, stands-rep, store-stands, own-stands, held-stands}
 
@@ -35,8 +35,8 @@ module _ (n : ℕ) (b : List ℕ) (H : Heap) (rep : ArenaRep n b H) (r : Reached
   held-is : heldPages n H ≡ heldOf n (passTo nobody (covers m q) (H .holder)) + m
   held-is = held-less n q m (H .holder) (omega (arith, run-ends, r .bound)) holds
 
-  pub give-fair : giveFair n b m ≡ true
-  give-fair = give-passes n b H rep r m (omega (arith, held-is))
+  pub give-valid : giveValid n b m ≡ true
+  give-valid = give-passes n b H rep r m (omega (arith, held-is))
 
   pub give-rep : (cs : ℕ → Class) → ArenaRep n (given b q m) (heapOf (H .rules) (give m q (H .arena)) (passTo nobody (covers m q) (H .holder)) cs)
   unfolding given

@@ -21,7 +21,7 @@ use Rattle.model.specs.Page.{Page}
 use Rattle.model.proofs.Pages.{all-append}
 use Rattle.words.specs.Host.{digit}
 use Rattle.pages.specs.Runs.{whole}
-use Rattle.pages.specs.Stack.{marked}
+use Rattle.pages.specs.Stack.{outBit}
 use Rattle.pages.specs.declared.Park.{Park}
 use Rattle.pages.specs.Links.{other, top, stored}
 use Rattle.refinement.specs.way.Chain.{In, Chain, Line, Stack}
@@ -48,7 +48,7 @@ pub record Keeps (n : ℕ) (sh : Shape) (c : ℕ) (b b′ : List ℕ) (q : ℕ) 
   pub run : whole n b′ sh c q ≡ true
 
 -- ---- one page
-pub marked-same : {sh : Shape} → Sound sh → {b b′ : List ℕ} {q : ℕ} → Body q b b′ → (i : ℕ) → marked b′ sh q i ≡ marked b sh q i
+pub marked-same : {sh : Shape} → Sound sh → {b b′ : List ℕ} {q : ℕ} → Body q b b′ → (i : ℕ) → outBit b′ sh q i ≡ outBit b sh q i
 marked-same {sh} sound {b} {b′} {q} y i = marked-kept b b′ sh q i (λ e. y .outs i (lt-ltb i 4096 (omega (arith, ltb-true i (sh .capacity) e, sound .few))))
 
 module _ {n : ℕ} {sh : Shape} (sound : Sound sh) {c : ℕ} {b b′ : List ℕ} where

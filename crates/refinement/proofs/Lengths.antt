@@ -29,7 +29,7 @@ use Rattle.calls.specs.Take.{Took, onRun, takeNew, takeCall}
 use Rattle.calls.specs.Out.{outFault}
 use Rattle.calls.proofs.Out.{passed}
 use Rattle.calls.specs.Release.{Released}
-use Rattle.calls.specs.Chunks.{chunksMatch, chunksFair, settleChunks, giveRuns, ChunksReleased, releaseChunks}
+use Rattle.calls.specs.Chunks.{chunksMatch, chunksValid, settleChunks, giveRuns, ChunksReleased, releaseChunks}
 use Rattle.refinement.specs.way.Represents.{firsts, StateRep, ClassRep, Represents}
 use Rattle.refinement.specs.Run.{classReply}
 use Rattle.refinement.proofs.Frames.{Only}
@@ -122,7 +122,7 @@ module _ (n : ℕ) (hn : n ≤ maxPages) (b : List ℕ) (H : Heap) (R : Represen
         (λ e. long-cond (not (k₁ && k₂)) _ _ (λ e. refl)
         (λ e₁. long-cond (not (eqb (outFault n b c (shapeOf c) ws) 0)) _ _ (λ e. refl)
         (λ e₂. long-cond (not (chunksMatch b ws gs)) _ _ (λ e. refl)
-        (λ e₃. long-cond (not (chunksFair n b c (shapeOf c) gs)) _ _ (λ e. refl)
+        (λ e₃. long-cond (not (chunksValid n b c (shapeOf c) gs)) _ _ (λ e. refl)
         (λ e₄. let k = and-left k₁ k₂ (not-false (k₁ && k₂) e₁) in
         let p = passed n b c sh ws (eqb-true (outFault n b c sh ws) 0 (not-false (eqb (outFault n b c sh ws) 0) e₂)) in
         let o = p .out in

@@ -3,7 +3,7 @@ pub mod ArenaStored
 pub mod ArenaFrames
 pub mod ArenaHolders
 pub mod ArenaReached
-pub mod ArenaFair
+pub mod ArenaValid
 pub mod ArenaHeld
 pub mod ArenaSteps
 pub mod CommitRep
@@ -39,14 +39,14 @@ pub mod Found
 pub mod OutTests
 pub mod Returned
 pub mod Release
-pub mod ReleaseFair
+pub mod ReleaseValid
 pub mod ReleaseGives
 pub mod ReleaseWhole
 pub mod ChunkTests
 pub mod Chunks
 pub mod ChunkWhole
 pub mod Whole
-pub mod Mix
+pub mod Override
 pub mod LocalPages
 pub mod LocalFill
 pub mod LocalTake
@@ -57,6 +57,6 @@ pub mod LocalBack
 pub mod LocalList
 pub mod LocalChunks
 pub mod Lengths
-pub mod Foot
+pub mod Footprint
 pub mod LocalReply
 pub mod ChangePlaces

@@ -1,6 +1,6 @@
 -- The linked lists after a page came in or went out.
 --     chain-linked, chain-unlinked     the partial list, with a page at its head, and without one of its pages
---     stack-stowed, stack-unstowed     a store, with a page on top, and without its newest
+--     stack-parked, stack-popped       a store, with a page on top, and without its newest
 use Prim.Native.Nat.{ℕ, zero, suc, _+_, _-_, _<_}
 use native.Mathlib.Omega.{arith}
 use native.Mathlib.Numerals.{add-one}
@@ -17,7 +17,7 @@ use Rattle.fields.proofs.Changes.{Changes}
 use Rattle.fields.proofs.Outcome.{length-putAt, get-putAt-same, get-putAt-other}
 use Rattle.pages.specs.declared.Park.{Park}
 use Rattle.pages.specs.declared.Park.the-variants.{Empty, Cold}
-use Rattle.pages.specs.Links.{pointNext, linked, cutOut, link, unlink, top, stored, stow, unstow}
+use Rattle.pages.specs.Links.{pointNext, linked, cutOut, link, unlink, top, stored, parkRun, popStore}
 use Rattle.refinement.specs.way.Chain.{In, Distinct, Segment, Chain, Stack}
 use Rattle.refinement.proofs.Lists.{in-left, in-right, in-without, Middle, middle, lastCode, last-in, last-suc, first-page, last-page, segment-kept, segment-redirect, Parted, part, join}
 use Rattle.refinement.proofs.Kept.{line-kept}
@@ -159,53 +159,53 @@ module _ (n : ℕ) (b : List ℕ) (hb : leb (words n) (length b) ≡ true) (c q 
 
 -- ---- the stores
 module _ (n : ℕ) (b : List ℕ) (hb : leb (words n) (length b) ≡ true) (c q : ℕ) (hc : ltb c 76 ≡ true) (hq : ltb q n ≡ true) where
-  top-unstowed : (k : Park) → get (unstow b c k q) (class (top k) c) ≡ get b (page next q)
-  unfolding unstow
-  top-unstowed Empty = simp (get-put-same n, get-put-other)
-  top-unstowed Cold = simp (get-put-same n, get-put-other)
+  top-popped : (k : Park) → get (popStore b c k q) (class (top k) c) ≡ get b (page next q)
+  unfolding popStore
+  top-popped Empty = simp (get-put-same n, get-put-other)
+  top-popped Cold = simp (get-put-same n, get-put-other)
 
-  stored-unstowed : (k : Park) → get (unstow b c k q) (class (stored k) c) ≡ get b (class (stored k) c) - 1
-  unfolding unstow
-  stored-unstowed Empty = simp (get-put-same n, length-put, hb)
-  stored-unstowed Cold = simp (get-put-same n, length-put, hb)
+  stored-popped : (k : Park) → get (popStore b c k q) (class (stored k) c) ≡ get b (class (stored k) c) - 1
+  unfolding popStore
+  stored-popped Empty = simp (get-put-same n, length-put, hb)
+  stored-popped Cold = simp (get-put-same n, length-put, hb)
 
-  next-unstowed : (k : Park) (x : ℕ) → get (unstow b c k q) (page next x) ≡ get b (page next x)
-  unfolding unstow
-  next-unstowed k x = simp get-put-other
+  next-popped : (k : Park) (x : ℕ) → get (popStore b c k q) (page next x) ≡ get b (page next x)
+  unfolding popStore
+  next-popped k x = simp get-put-other
 
-  pub stack-unstowed : (k : Park) (us : List ℕ) → Stack b c k (q ∷ us) → Stack (unstow b c k q) c k us
-  stack-unstowed k us s = record {
-    line = rw (top-unstowed k) (line-kept b (unstow b c k q) (get b (page next q)) us (λ x i. next-unstowed k x) (s .line .1));
-    number = stored-unstowed k ∙ rw (s .number) (omega arith);
+  pub stack-popped : (k : Park) (us : List ℕ) → Stack b c k (q ∷ us) → Stack (popStore b c k q) c k us
+  stack-popped k us s = record {
+    line = rw (top-popped k) (line-kept b (popStore b c k q) (get b (page next q)) us (λ x i. next-popped k x) (s .line .1));
+    number = stored-popped k ∙ rw (s .number) (omega arith);
     few = omega (arith, s .few);
   }
 
-  top-stowed : (k : Park) → get (stow b c k q) (class (top k) c) ≡ suc q
-  unfolding stow
-  top-stowed Empty = simp (get-put-same n, get-put-other, length-put, hb, add-one)
-  top-stowed Cold = simp (get-put-same n, get-put-other, length-put, hb, add-one)
+  top-parked : (k : Park) → get (parkRun b c k q) (class (top k) c) ≡ suc q
+  unfolding parkRun
+  top-parked Empty = simp (get-put-same n, get-put-other, length-put, hb, add-one)
+  top-parked Cold = simp (get-put-same n, get-put-other, length-put, hb, add-one)
 
-  stored-stowed : (k : Park) → get (stow b c k q) (class (stored k) c) ≡ suc (get b (class (stored k) c))
-  unfolding stow
-  stored-stowed Empty = simp (get-put-same n, length-put, hb, add-one)
-  stored-stowed Cold = simp (get-put-same n, length-put, hb, add-one)
+  stored-parked : (k : Park) → get (parkRun b c k q) (class (stored k) c) ≡ suc (get b (class (stored k) c))
+  unfolding parkRun
+  stored-parked Empty = simp (get-put-same n, length-put, hb, add-one)
+  stored-parked Cold = simp (get-put-same n, length-put, hb, add-one)
 
-  next-stowed : (k : Park) → get (stow b c k q) (page next q) ≡ get b (class (top k) c)
-  unfolding stow
-  next-stowed Empty = simp (get-put-same n, get-put-other)
-  next-stowed Cold = simp (get-put-same n, get-put-other)
+  next-parked : (k : Park) → get (parkRun b c k q) (page next q) ≡ get b (class (top k) c)
+  unfolding parkRun
+  next-parked Empty = simp (get-put-same n, get-put-other)
+  next-parked Cold = simp (get-put-same n, get-put-other)
 
-  others-stowed : (k : Park) (x : ℕ) → eqb q x ≡ false → get (stow b c k q) (page next x) ≡ get b (page next x)
-  unfolding stow
-  others-stowed k x d = simp get-put-other
+  others-parked : (k : Park) (x : ℕ) → eqb q x ≡ false → get (parkRun b c k q) (page next x) ≡ get b (page next x)
+  unfolding parkRun
+  others-parked k x d = simp get-put-other
 
-  pub stack-stowed : (k : Park) (us : List ℕ) → (In q us → ⊥) → length us < 256 → Stack b c k us → Stack (stow b c k q) c k (q ∷ us)
-  stack-stowed k us f l s = record {
+  pub stack-parked : (k : Park) (us : List ℕ) → (In q us → ⊥) → length us < 256 → Stack b c k us → Stack (parkRun b c k q) c k (q ∷ us)
+  stack-parked k us f l s = record {
     line = (
-      top-stowed k,
-      rw (next-stowed k) (line-kept b (stow b c k q) (get b (class (top k) c)) us
-          (λ x i. others-stowed k x (ne-eqb q x (λ e. f (subst (λ (w : ℕ). In w us) (sym e) i)))) (s .line)),
+      top-parked k,
+      rw (next-parked k) (line-kept b (parkRun b c k q) (get b (class (top k) c)) us
+          (λ x i. others-parked k x (ne-eqb q x (λ e. f (subst (λ (w : ℕ). In w us) (sym e) i)))) (s .line)),
     );
-    number = stored-stowed k ∙ ap suc (s .number);
+    number = stored-parked k ∙ ap suc (s .number);
     few = omega arith;
   }

@@ -1,8 +1,8 @@
 -- Which fields a page's move into a list and out of it writes.
---     isLink        linking q and unlinking it between pages of the codes x behind it and y before it: their links, its own, the
---                   head of the list, and whether q is listed
---     isStow        a store's row, and NEXT of q
---     LetsLink, LetsStow    what a test must let pass for these moves to be changes of that test
+--     isLink           linking q and unlinking it between pages of the codes x behind it and y before it: their links, its own, the
+--                      head of the list, and whether q is listed
+--     isParkRun        a store's row, and NEXT of q
+--     LetsLink, LetsParkRun    what a test must let pass for these moves to be changes of that test
 use Prim.Native.Nat.{ℕ, suc}
 use mathlib.Core.Bool.{Bool, true, false, _&&_, _||_}
 use mathlib.Core.List.{List}
@@ -14,8 +14,8 @@ use Rattle.fields.specs.Field.{Field, arena, class, hole, page, mark, slot, out
 use Rattle.fields.proofs.Changes.{Changes}
 use Rattle.pages.specs.declared.Park.{Park}
 use Rattle.pages.specs.declared.Park.the-variants.{Empty, Cold}
-use Rattle.pages.specs.Links.{link, unlink, top, stored, other, stow, unstow}
-use Rattle.pages.proofs.Frames.{changes-link, changes-unlink, changes-stow, changes-unstow}
+use Rattle.pages.specs.Links.{link, unlink, top, stored, other, parkRun, popStore}
+use Rattle.pages.proofs.Frames.{changes-link, changes-unlink, changes-park-run, changes-pop-store}
 use Rattle.refinement.proofs.Frames.{ofClass, Owns}
 use Rattle.refinement.proofs.Kept.{Body, Ties}
 
@@ -102,41 +102,41 @@ module _ {b b′ : List ℕ} (c q x y : ℕ) (h : Changes (isLink c q x y) b b�
   link-stored row Cold = h .kept (class (stored Cold) c) row refl
 
 -- ---- the stores
-abbrev pub isStow : Park → ℕ → ℕ → Field → Bool
-isStow k c q (arena l) = false
-isStow k c q (mark p j) = false
-isStow k c q (class l d) = (eqb (classOff l) (classOff (top k)) || eqb (classOff l) (classOff (stored k))) && eqb d c
-isStow k c q (hole l i) = false
-isStow k c q (page l p) = eqb (pageOff l) 2 && eqb p q
-isStow k c q (slot p i) = false
-isStow k c q (out p i) = false
+abbrev pub isParkRun : Park → ℕ → ℕ → Field → Bool
+isParkRun k c q (arena l) = false
+isParkRun k c q (mark p j) = false
+isParkRun k c q (class l d) = (eqb (classOff l) (classOff (top k)) || eqb (classOff l) (classOff (stored k))) && eqb d c
+isParkRun k c q (hole l i) = false
+isParkRun k c q (page l p) = eqb (pageOff l) 2 && eqb p q
+isParkRun k c q (slot p i) = false
+isParkRun k c q (out p i) = false
 
-pub record LetsStow (t : Field → Bool) (k : Park) (c q : ℕ) : Type 0 where
+pub record LetsParkRun (t : Field → Bool) (k : Park) (c q : ℕ) : Type 0 where
   pub newest : t (class (top k) c) ≡ true
   pub number : t (class (stored k) c) ≡ true
   pub fore : t (page next q) ≡ true
 
-pub stow-lets : (k : Park) (c q : ℕ) → LetsStow (isStow k c q) k c q
-stow-lets Empty c q = record { newest = eq-eqb c c refl; number = eq-eqb c c refl; fore = eq-eqb q q refl }
-stow-lets Cold c q = record { newest = eq-eqb c c refl; number = eq-eqb c c refl; fore = eq-eqb q q refl }
+pub park-run-lets : (k : Park) (c q : ℕ) → LetsParkRun (isParkRun k c q) k c q
+park-run-lets Empty c q = record { newest = eq-eqb c c refl; number = eq-eqb c c refl; fore = eq-eqb q q refl }
+park-run-lets Cold c q = record { newest = eq-eqb c c refl; number = eq-eqb c c refl; fore = eq-eqb q q refl }
 
-pub class-lets-stow : (b : List ℕ) (k : Park) (c q : ℕ) → get b (page owner q) ≡ suc c → LetsStow (ofClass b c) k c q
-class-lets-stow b Empty c q o = record { newest = eq-eqb (suc c) (suc c) refl; number = eq-eqb (suc c) (suc c) refl; fore = eq-eqb _ _ o }
-class-lets-stow b Cold c q o = record { newest = eq-eqb (suc c) (suc c) refl; number = eq-eqb (suc c) (suc c) refl; fore = eq-eqb _ _ o }
+pub class-lets-park-run : (b : List ℕ) (k : Park) (c q : ℕ) → get b (page owner q) ≡ suc c → LetsParkRun (ofClass b c) k c q
+class-lets-park-run b Empty c q o = record { newest = eq-eqb (suc c) (suc c) refl; number = eq-eqb (suc c) (suc c) refl; fore = eq-eqb _ _ o }
+class-lets-park-run b Cold c q o = record { newest = eq-eqb (suc c) (suc c) refl; number = eq-eqb (suc c) (suc c) refl; fore = eq-eqb _ _ o }
 
-module _ (t : Field → Bool) (b : List ℕ) (c q : ℕ) (row : ltb c 76 ≡ true) (k : Park) (l : LetsStow t k c q) where
-  pub stow-changes : Changes t b (stow b c k q)
-  stow-changes = changes-stow t b c q row k (l .newest) (l .number) (l .fore)
+module _ (t : Field → Bool) (b : List ℕ) (c q : ℕ) (row : ltb c 76 ≡ true) (k : Park) (l : LetsParkRun t k c q) where
+  pub park-run-changes : Changes t b (parkRun b c k q)
+  park-run-changes = changes-park-run t b c q row k (l .newest) (l .number) (l .fore)
 
-  pub unstow-changes : Changes t b (unstow b c k q)
-  unstow-changes = changes-unstow t b c q row k (l .newest) (l .number)
+  pub pop-store-changes : Changes t b (popStore b c k q)
+  pop-store-changes = changes-pop-store t b c q row k (l .newest) (l .number)
 
-module _ {b b′ : List ℕ} (k : Park) (c q : ℕ) (h : Changes (isStow k c q) b b′) where
-  pub stow-owns : Owns b b′
-  stow-owns = record { owners = λ z. h .kept (page owner z) refl refl; starts = λ z. h .kept (page first z) refl refl; bound = h .kept (arena frontier) refl refl }
+module _ {b b′ : List ℕ} (k : Park) (c q : ℕ) (h : Changes (isParkRun k c q) b b′) where
+  pub park-run-owns : Owns b b′
+  park-run-owns = record { owners = λ z. h .kept (page owner z) refl refl; starts = λ z. h .kept (page first z) refl refl; bound = h .kept (arena frontier) refl refl }
 
-  pub stow-body : (z : ℕ) → Body z b b′
-  stow-body z = record {
+  pub park-run-body : (z : ℕ) → Body z b b′
+  park-run-body z = record {
     free = h .kept (page free z) refl refl;
     carved = h .kept (page carved z) refl refl;
     virgin = h .kept (page virgin z) refl refl;
@@ -145,30 +145,30 @@ module _ {b b′ : List ℕ} (k : Park) (c q : ℕ) (h : Changes (isStow k c q) 
     marks = λ j o. h .kept (mark z j) o refl;
   }
 
-  pub stow-listing : (z : ℕ) → get b′ (page listed z) ≡ get b (page listed z)
-  stow-listing z = h .kept (page listed z) refl refl
+  pub park-run-listing : (z : ℕ) → get b′ (page listed z) ≡ get b (page listed z)
+  park-run-listing z = h .kept (page listed z) refl refl
 
-  pub stow-ties : (z : ℕ) → (z ≡ q → ⊥) → Ties z b b′
-  stow-ties z d = record { fore = h .kept (page next z) refl (ne-eqb z q d); back = h .kept (page prev z) refl refl }
+  pub park-run-ties : (z : ℕ) → (z ≡ q → ⊥) → Ties z b b′
+  park-run-ties z d = record { fore = h .kept (page next z) refl (ne-eqb z q d); back = h .kept (page prev z) refl refl }
 
-  partial-row : (k : Park) → isStow k c q (class partial c) ≡ false
+  partial-row : (k : Park) → isParkRun k c q (class partial c) ≡ false
   partial-row Empty = refl
   partial-row Cold = refl
 
-  top-row : (k : Park) → isStow k c q (class (top (other k)) c) ≡ false
+  top-row : (k : Park) → isParkRun k c q (class (top (other k)) c) ≡ false
   top-row Empty = refl
   top-row Cold = refl
 
-  stored-row : (k : Park) → isStow k c q (class (stored (other k)) c) ≡ false
+  stored-row : (k : Park) → isParkRun k c q (class (stored (other k)) c) ≡ false
   stored-row Empty = refl
   stored-row Cold = refl
 
   module _ (row : ltb c 76 ≡ true) where
-    pub stow-partial : get b′ (class partial c) ≡ get b (class partial c)
-    stow-partial = h .kept (class partial c) row (partial-row k)
+    pub park-run-partial : get b′ (class partial c) ≡ get b (class partial c)
+    park-run-partial = h .kept (class partial c) row (partial-row k)
 
-    pub stow-top : get b′ (class (top (other k)) c) ≡ get b (class (top (other k)) c)
-    stow-top = h .kept (class (top (other k)) c) row (top-row k)
+    pub park-run-top : get b′ (class (top (other k)) c) ≡ get b (class (top (other k)) c)
+    park-run-top = h .kept (class (top (other k)) c) row (top-row k)
 
-    pub stow-stored : get b′ (class (stored (other k)) c) ≡ get b (class (stored (other k)) c)
-    stow-stored = h .kept (class (stored (other k)) c) row (stored-row k)
+    pub park-run-stored : get b′ (class (stored (other k)) c) ≡ get b (class (stored (other k)) c)
+    park-run-stored = h .kept (class (stored (other k)) c) row (stored-row k)

@@ -23,7 +23,7 @@ use Rattle.arena.specs.Calls.{settledArena, readyArena, arenaAs, committedArena
 use Rattle.pages.specs.Runs.{nameRun}
 use Rattle.pages.specs.Carve.{stocked, outWords, bareRun, newRun}
 use Rattle.pages.proofs.Frames.{stocked-le}
-use Rattle.refinement.proofs.Mix.{mix, PageIn, at-word, get-in, put-in, put-page, put-out, put-mark}
+use Rattle.refinement.proofs.Override.{override, PageIn, at-word, get-in, put-in, put-page, put-out, put-mark}
 use Rattle.refinement.proofs.LocalPages.{carve-in}
 
 -- the record and the holes lie in S
@@ -43,49 +43,49 @@ module _ {S : ℕ → Bool} (a : ArenaIn S) (d : List ℕ) where
   in-hole HoleField.start i l = at-word S (omega arith) (a .high (2 * i) (omega arith))
   in-hole HoleField.pages i l = at-word S (omega arith) (a .high (2 * i + 1) (omega arith))
 
-  pub get-arena : (b : List ℕ) (k : ArenaField) → get (mix S b d) (arena k) ≡ get b (arena k)
+  pub get-arena : (b : List ℕ) (k : ArenaField) → get (override S b d) (arena k) ≡ get b (arena k)
   get-arena b k = get-in S b d (arena k) (in-arena k)
 
-  put-arena : (b : List ℕ) (k : ArenaField) (v : ℕ) → put (mix S b d) (arena k) v ≡ mix S (put b (arena k) v) d
+  put-arena : (b : List ℕ) (k : ArenaField) (v : ℕ) → put (override S b d) (arena k) v ≡ override S (put b (arena k) v) d
   put-arena b k v = put-in S b d (arena k) v (in-arena k)
 
-  put-hole : (k : HoleField) (i : ℕ) → i < 4096 → (b : List ℕ) (v : ℕ) → put (mix S b d) (hole k i) v ≡ mix S (put b (hole k i) v) d
+  put-hole : (k : HoleField) (i : ℕ) → i < 4096 → (b : List ℕ) (v : ℕ) → put (override S b d) (hole k i) v ≡ override S (put b (hole k i) v) d
   put-hole k i l b v = put-in S b d (hole k i) v (in-hole k i l)
 
   -- ---- the arena stored
-  holes-in : (hs : List Hole) (i : ℕ) → i + length hs ≤ 4096 → (b : List ℕ) → storeHoles (mix S b d) i hs ≡ mix S (storeHoles b i hs) d
+  holes-in : (hs : List Hole) (i : ℕ) → i + length hs ≤ 4096 → (b : List ℕ) → storeHoles (override S b d) i hs ≡ override S (storeHoles b i hs) d
   unfolding storeHoles
   holes-in [] i l b = refl
   holes-in (x ∷ hs) i l b = rw (holes-in hs (suc i) (omega arith) b) (simp (put-hole start i (omega arith), put-hole pages i (omega arith)))
 
-  pub arena-in : (b : List ℕ) (g : Arena) → length (g .store .holes) ≤ 4096 → storeArena (mix S b d) g ≡ mix S (storeArena b g) d
+  pub arena-in : (b : List ℕ) (g : Arena) → length (g .store .holes) ≤ 4096 → storeArena (override S b d) g ≡ override S (storeArena b g) d
   unfolding storeArena storeCounts storeTop
   arena-in b g l = rw (holes-in (g .store .holes) 0 (omega arith) b) (simp put-arena)
 
   -- ---- the arena loaded
-  load-holes-in : (b : List ℕ) (k i : ℕ) → i + k ≤ 4096 → loadHoles (mix S b d) i k ≡ loadHoles b i k
+  load-holes-in : (b : List ℕ) (k i : ℕ) → i + k ≤ 4096 → loadHoles (override S b d) i k ≡ loadHoles b i k
   unfolding loadHoles
   load-holes-in b zero i l = refl
   load-holes-in b (suc k) i l =
       rw (get-in S b d (hole start i) (in-hole start i (omega arith)), get-in S b d (hole pages i) (in-hole pages i (omega arith)), load-holes-in b k (suc i) (omega arith))
 
-  pub load-in : (b : List ℕ) → get b (arena holes) ≤ 4096 → loadArena (mix S b d) ≡ loadArena b
+  pub load-in : (b : List ℕ) → get b (arena holes) ≤ 4096 → loadArena (override S b d) ≡ loadArena b
   unfolding loadArena loadStore
   load-in b l = simp (get-arena, load-holes-in b (get b (arena holes)) 0 (omega arith))
 
   -- ---- owners
-  pub own-in : (m q w : ℕ) → RunIn S q m → (b : List ℕ) → own (mix S b d) q m w ≡ mix S (own b q m w) d
+  pub own-in : (m q w : ℕ) → RunIn S q m → (b : List ℕ) → own (override S b d) q m w ≡ override S (own b q m w) d
   unfolding own
   own-in zero q w r b = refl
   own-in (suc m) q w r b =
       rw (put-page (r q (omega arith) (omega arith)) b d owner w) (own-in m (suc q) w (λ x l u. r x (omega arith) (omega arith)) (put b (page owner q) w))
 
-  own-run-in : (o : Option ℕ) (m w : ℕ) → ((q : ℕ) → o ≡ some q → RunIn S q m) → (b : List ℕ) → ownRun (mix S b d) o m w ≡ mix S (ownRun b o m w) d
+  own-run-in : (o : Option ℕ) (m w : ℕ) → ((q : ℕ) → o ≡ some q → RunIn S q m) → (b : List ℕ) → ownRun (override S b d) o m w ≡ override S (ownRun b o m w) d
   own-run-in none m w r b = refl
   own-run-in (some q) m w r b = own-in m q w (r q refl) b
 
   -- ---- a commit
-  settled-in : (b : List ℕ) (h m : ℕ) (g : Arena) (o : Option ℕ) (f : Bool) → length (g .store .holes) ≤ 4096 → settledArena h m (mix S b d) g o f ≡ mix S (settledArena h m b g o f) d
+  settled-in : (b : List ℕ) (h m : ℕ) (g : Arena) (o : Option ℕ) (f : Bool) → length (g .store .holes) ≤ 4096 → settledArena h m (override S b d) g o f ≡ override S (settledArena h m b g o f) d
   unfolding settledArena
   settled-in b h m g none f l = arena-in b g l
   settled-in b h m g (some q) f l =
@@ -95,18 +95,18 @@ module _ {S : ℕ → Bool} (a : ArenaIn S) (d : List ℕ) where
       (λ e. rw (e, holes-in hs 0 (omega arith) b) (arena-in (storeHoles b 0 hs) (Model.give m q g) (few-give m q g l)))
 
   module _ (n : ℕ) (b : List ℕ) (h m : ℕ) where
-    ready-in : (g : Arena) → length (g .store .holes) ≤ 4096 → readyArena n h m (mix S b d) g ≡ mix S (readyArena n h m b g) d
+    ready-in : (g : Arena) → length (g .store .holes) ≤ 4096 → readyArena n h m (override S b d) g ≡ override S (readyArena n h m b g) d
     unfolding readyArena
     ready-in g l = let x = Model.draw n m g in settled-in b h m (x .arena) (x .run) (x .fresh) (few-draw n m g l)
 
-    as-in : (g : Arena) (s : Status) → length (g .store .holes) ≤ 4096 → arenaAs n h m (mix S b d) g s ≡ mix S (arenaAs n h m b g s) d
+    as-in : (g : Arena) (s : Status) → length (g .store .holes) ≤ 4096 → arenaAs n h m (override S b d) g s ≡ override S (arenaAs n h m b g s) d
     unfolding arenaAs
     as-in g unasked l = by-cases (reservationGranted h) (λ e. rw e (ready-in (Model.withStatus ready g) l)) (λ e. rw e (arena-in b (Model.withStatus disabled g) l))
     as-in g ready l = ready-in g l
     as-in g disabled l = arena-in b g l
 
     pub committed-in : (a : Arena) (w : ℕ) → length (a .store .holes) ≤ 4096 → RunIn S (get b (arena frontier)) (Model.commit n h m a .arena .frontier - get b (arena frontier))
-        → ((q : ℕ) → Model.commit n h m a .run ≡ some q → RunIn S q m) → commitBook n (mix S b d) h m a w ≡ mix S (commitBook n b h m a w) d
+        → ((q : ℕ) → Model.commit n h m a .run ≡ some q → RunIn S q m) → commitBook n (override S b d) h m a w ≡ override S (commitBook n b h m a w) d
     unfolding committed passedTo advance committedArena
     committed-in a w l f r =
         let g = Model.commit n h m a in
@@ -120,12 +120,12 @@ module _ {S : ℕ → Bool} (a : ArenaIn S) (d : List ℕ) where
         )
         (put-arena _ held _)
 
-  grown-arena-in : (n : ℕ) (b : List ℕ) (h e m : ℕ) (a : Arena) → length (a .store .holes) ≤ 4096 → grownArena n h e m (mix S b d) a ≡ mix S (grownArena n h e m b a) d
+  grown-arena-in : (n : ℕ) (b : List ℕ) (h e m : ℕ) (a : Arena) → length (a .store .holes) ≤ 4096 → grownArena n h e m (override S b d) a ≡ override S (grownArena n h e m b a) d
   unfolding grownArena
   grown-arena-in n b h e m a l = by-cases (Model.canGrow n e m a) (λ t. rw t (settled-in b h m (Model.withFrontier (e + m) a) (some e) true l)) (λ t. rw t (arena-in b a l))
 
   pub grown-in : (n : ℕ) (b : List ℕ) (h e m : ℕ) (a : Arena) → length (a .store .holes) ≤ 4096 → RunIn S (get b (arena frontier)) (Model.grow n h e m a .arena .frontier - get b (arena frontier))
-      → ((q : ℕ) → grownBy (Model.grow n h e m a .grew) e ≡ some q → RunIn S q m) → growBook n (mix S b d) h e m a ≡ mix S (growBook n b h e m a) d
+      → ((q : ℕ) → grownBy (Model.grow n h e m a .grew) e ≡ some q → RunIn S q m) → growBook n (override S b d) h e m a ≡ override S (growBook n b h e m a) d
   unfolding grownBook passedTo advance
   grown-in n b h e m a l f r =
       let g = Model.grow n h e m a in
@@ -139,30 +139,30 @@ module _ {S : ℕ → Bool} (a : ArenaIn S) (d : List ℕ) where
       )
       (put-arena _ held _)
 
-  pub given-in : (b : List ℕ) (q m : ℕ) → get b (arena holes) ≤ 4096 → length (Model.give m q (loadArena b) .store .holes) ≤ 4096 → RunIn S q m → given (mix S b d) q m ≡ mix S (given b q m) d
+  pub given-in : (b : List ℕ) (q m : ℕ) → get b (arena holes) ≤ 4096 → length (Model.give m q (loadArena b) .store .holes) ≤ 4096 → RunIn S q m → given (override S b d) q m ≡ override S (given b q m) d
   unfolding given
   given-in b q m l k r =
       rw (get-arena b held, load-in b l, arena-in b (Model.give m q (loadArena b)) k, own-in m q 0 r (storeArena b (Model.give m q (loadArena b)))) (put-arena _ held _)
 
 -- ---- a new run
 module _ {S : ℕ → Bool} (d : List ℕ) where
-  name-in : (m f x : ℕ) → RunIn S x m → (b : List ℕ) → nameRun (mix S b d) f x m ≡ mix S (nameRun b f x m) d
+  name-in : (m f x : ℕ) → RunIn S x m → (b : List ℕ) → nameRun (override S b d) f x m ≡ override S (nameRun b f x m) d
   unfolding nameRun
   name-in zero f x r b = refl
   name-in (suc m) f x r b =
       rw (put-page (r x (omega arith) (omega arith)) b d first f) (name-in m f (suc x) (λ y l u. r y (omega arith) (omega arith)) (put b (page first x) f))
 
-  clear-in : {q : ℕ} → PageIn S q → (k i : ℕ) → i + k ≤ 4096 → (b : List ℕ) → clearOut (mix S b d) q i k ≡ mix S (clearOut b q i k) d
+  clear-in : {q : ℕ} → PageIn S q → (k i : ℕ) → i + k ≤ 4096 → (b : List ℕ) → clearOut (override S b d) q i k ≡ override S (clearOut b q i k) d
   unfolding clearOut
   clear-in p zero i l b = refl
   clear-in {q} p (suc k) i l b = rw (put-out p b d i 0 (omega arith)) (clear-in p k (i + 1) (omega arith) (put b (out q i) 0))
 
-  marks-in : {q : ℕ} → PageIn S q → (m : ℕ) → m ≤ 128 → (b : List ℕ) → clearMarks (mix S b d) q m ≡ mix S (clearMarks b q m) d
+  marks-in : {q : ℕ} → PageIn S q → (m : ℕ) → m ≤ 128 → (b : List ℕ) → clearMarks (override S b d) q m ≡ override S (clearMarks b q m) d
   unfolding clearMarks
   marks-in p zero l b = refl
   marks-in {q} p (suc m) l b = rw (marks-in p m (omega arith) b) (put-mark p (clearMarks b q m) d m 0 (omega arith))
 
-  pub new-in : (b : List ℕ) (sh : Shape) (q : ℕ) → sh .capacity ≤ 4096 → 1 ≤ sh .pages → RunIn S q (sh .pages) → newRun (mix S b d) sh q ≡ mix S (newRun b sh q) d
+  pub new-in : (b : List ℕ) (sh : Shape) (q : ℕ) → sh .capacity ≤ 4096 → 1 ≤ sh .pages → RunIn S q (sh .pages) → newRun (override S b d) sh q ≡ override S (newRun b sh q) d
   unfolding newRun bareRun
   new-in b sh q l one r =
       let p : PageIn S q = r q (omega arith) (omega arith) in

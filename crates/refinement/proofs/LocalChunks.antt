@@ -34,7 +34,7 @@ use Rattle.pages.specs.Stack.{indexOf, pageAt}
 use Rattle.calls.specs.Out.{startOf, inRunOf, outAt}
 use Rattle.calls.specs.Release.{Released}
 use Rattle.calls.specs.Chunks as Words
-use Rattle.calls.specs.Chunks.{blocksOn, chunksMatch, chunksFair, chunkBackAt, givesOf, settleChunks, giveRuns, chunksNone, releaseChunks}
+use Rattle.calls.specs.Chunks.{blocksOn, chunksMatch, chunksValid, chunkBackAt, givesOf, settleChunks, giveRuns, chunksNone, releaseChunks}
 use Rattle.refinement.specs.way.Represents.{StateRep, RuleRep, Represents}
 use Rattle.refinement.proofs.Basics.{Setting, setting-kept}
 use Rattle.refinement.proofs.Frames.{ofClass, Only, only-trans, only-rule}
@@ -46,18 +46,18 @@ use Rattle.refinement.proofs.Release.{SettledRep, stays, goes, settle-c
 use Rattle.refinement.proofs.LocalGives.{all-local}
 use Rattle.refinement.proofs.ChunkTests.{chunks-same}
 use Rattle.refinement.proofs.Chunks.{every-blocks, once-blocks, settle-skips, Waits, waits-next, blocks-kept, start-kept}
-use Rattle.refinement.proofs.ChunkWhole.{small-shape, all-wait, all-settled, chunks-fair}
+use Rattle.refinement.proofs.ChunkWhole.{small-shape, all-wait, all-settled, chunks-valid}
 use Rattle.refinement.proofs.ArenaHolders.{small-class}
-use Rattle.refinement.proofs.Mix.{mix, PageIn, get-page}
+use Rattle.refinement.proofs.Override.{override, PageIn, get-page}
 use Rattle.refinement.proofs.LocalFill.{Home, home-only}
-use Rattle.refinement.proofs.LocalBack.{besideR, chunk-local}
+use Rattle.refinement.proofs.LocalBack.{overrideReleased, chunk-local}
 use Rattle.refinement.proofs.LocalList.{Roams, home-gives}
 
-abbrev pub besideS : (ℕ → Bool) → List ℕ → Words.Settled → Words.Settled
-besideS S d w = record { book = mix S (w .book) d; fates = w .fates; gives = w .gives }
+abbrev pub overrideSettled : (ℕ → Bool) → List ℕ → Words.Settled → Words.Settled
+overrideSettled S d w = record { book = override S (w .book) d; fates = w .fates; gives = w .gives }
 
 -- a chunk's blocks go by words of S
-pub blocks-in : (S : ℕ → Bool) (b d : List ℕ) (q : ℕ) (ws : List ℕ) → All (λ w. PageIn S (pageAt w)) ws → blocksOn (mix S b d) ws q ≡ blocksOn b ws q
+pub blocks-in : (S : ℕ → Bool) (b d : List ℕ) (q : ℕ) (ws : List ℕ) → All (λ w. PageIn S (pageAt w)) ws → blocksOn (override S b d) ws q ≡ blocksOn b ws q
 unfolding blocksOn startOf
 blocks-in S b d q [] a = refl
 blocks-in S b d q (w ∷ ws) a = rw (get-page (a .0) b d first, blocks-in S b d q ws (a .1))
@@ -77,7 +77,7 @@ module _ (S : ℕ → Bool) {n c : ℕ} {sh : Shape} (hn : n ≤ maxPages) (lim 
   Rest : List ℕ → Type 0
   Rest gs =
       (b : List ℕ) (t : Class) (zs : List Page) → Only c b₀ b → Home S n b c sh → Away n b c sh t zs → All (Waits sh ws b₀ t) gs
-      → settleChunks (mix S b d) c sh h ws gs ≡ besideS S d (settleChunks b c sh h ws gs)
+      → settleChunks (override S b d) c sh h ws gs ≡ overrideSettled S d (settleChunks b c sh h ws gs)
 
   abbrev chunk : List ℕ → ℕ → Released
   chunk b q = chunkBackAt b c sh h q (map (indexOf sh q) (blocksOn b ws q))
@@ -87,8 +87,8 @@ module _ (S : ℕ → Bool) {n c : ℕ} {sh : Shape} (hn : n ≤ maxPages) (lim 
 
   step : (g : ℕ) (gs : List ℕ) → Rest gs → elem (pageOf g) (map pageOf gs) ≡ false → (b : List ℕ) (t : Class) (zs : List Page) → Only c b₀ b → Home S n b c sh → Away n b c sh t zs
       → (wait : Waits sh ws b₀ t g) → All (Waits sh ws b₀ t) gs → (x : Option Site) → Located (startsAt (pageOf g)) t x → pageIn x ≡ some (wait .page)
-      → thenAll (pageOf g) (chunk (mix S b d) (pageOf g)) (settleChunks (chunk (mix S b d) (pageOf g) .book) c sh h ws gs)
-      ≡ besideS S d (thenAll (pageOf g) (chunk b (pageOf g)) (settleChunks (chunk b (pageOf g) .book) c sh h ws gs))
+      → thenAll (pageOf g) (chunk (override S b d) (pageOf g)) (settleChunks (chunk (override S b d) (pageOf g) .book) c sh h ws gs)
+      ≡ overrideSettled S d (thenAll (pageOf g) (chunk b (pageOf g)) (settleChunks (chunk b (pageOf g) .book) c sh h ws gs))
   unfolding Rest
   step g gs rest new b t zs o hm r wait waits none y e = absurd (Option·none-ne-some (wait .page) e)
   step g gs rest new b t zs o hm r wait waits (some x) y e =
@@ -108,18 +108,18 @@ module _ (S : ℕ → Bool) {n c : ℕ} {sh : Shape} (hn : n ≤ maxPages) (lim 
       let settled₂ = subst (λ (l : List ℕ). SettledRep n b c sh zs 6 q (chunkBackAt b c sh h q (map (indexOf sh q) l)) y₁) eb settled₁ in
       let a = after settled₂ in
       let one = chunk-local s hn hm h d x pl (Model.blocksOn sh ws (x .page)) outs few in
-      let one₁ = subst (λ (z : ℕ). chunkBackAt (mix S b d) c sh h z (map (indexOf sh z) bs) ≡ besideR S d (chunkBackAt b c sh h z (map (indexOf sh z) bs))) eq one in
-      let one₂ : chunkBackAt (mix S b d) c sh h (pageOf g) (map (indexOf sh (pageOf g)) (blocksOn b ws (pageOf g))) ≡ besideR S d (chunk b (pageOf g))
-      = subst (λ (l : List ℕ). chunkBackAt (mix S b d) c sh h q (map (indexOf sh q) l) ≡ besideR S d (chunkBackAt b c sh h q (map (indexOf sh q) l))) eb one₁ in
+      let one₁ = subst (λ (z : ℕ). chunkBackAt (override S b d) c sh h z (map (indexOf sh z) bs) ≡ overrideReleased S d (chunkBackAt b c sh h z (map (indexOf sh z) bs))) eq one in
+      let one₂ : chunkBackAt (override S b d) c sh h (pageOf g) (map (indexOf sh (pageOf g)) (blocksOn b ws (pageOf g))) ≡ overrideReleased S d (chunk b (pageOf g))
+      = subst (λ (l : List ℕ). chunkBackAt (override S b d) c sh h q (map (indexOf sh q) l) ≡ overrideReleased S d (chunkBackAt b c sh h q (map (indexOf sh q) l))) eb one₁ in
       let ih = rest (chunk b q .book) (y₁ .class) (a .pages) (only-trans c o (a .only)) (home-only (a .only) hm) (a .rep)
       (waits-next sh ws b₀ t (y₁ .class) q (λ z ne. settle-skips sh lim h y bs z (ap (λ v. eqb v z) eq ∙ ne)) gs new waits) in
-      ap (λ (l : List ℕ). thenAll q (chunkBackAt (mix S b d) c sh h q (map (indexOf sh q) l)) (settleChunks (chunkBackAt (mix S b d) c sh h q (map (indexOf sh q) l) .book) c sh h ws gs))
+      ap (λ (l : List ℕ). thenAll q (chunkBackAt (override S b d) c sh h q (map (indexOf sh q) l)) (settleChunks (chunkBackAt (override S b d) c sh h q (map (indexOf sh q) l) .book) c sh h ws gs))
       (blocks-in S b d q ws homes)
       ∙ ap (λ (v : Released). thenAll q v (settleChunks (v .book) c sh h ws gs)) one₂
       ∙ ap (thenAll q (chunk b q)) ih
 
   pub chunks-in : (gs : List ℕ) → distinct (map pageOf gs) ≡ true → (b : List ℕ) (t : Class) (zs : List Page) → Only c b₀ b → Home S n b c sh → Away n b c sh t zs → All (Waits sh ws b₀ t) gs
-      → settleChunks (mix S b d) c sh h ws gs ≡ besideS S d (settleChunks b c sh h ws gs)
+      → settleChunks (override S b d) c sh h ws gs ≡ overrideSettled S d (settleChunks b c sh h ws gs)
   unfolding settleChunks Rest
   chunks-in [] e b t zs o hm r a = refl
   chunks-in (g ∷ gs) e b t zs o hm r a =
@@ -134,17 +134,17 @@ unfolding shapeOf smallShape
 one-page c e x y l u = let z : y < x + 1 = rw e at u in omega arith
 
 module _ {S : ℕ → Bool} (n : ℕ) (hn : n ≤ maxPages) (b : List ℕ) (H : Heap) (R : Represents n b H) (ok : Reached n H) (c : ℕ) (hs : ltb c 64 ≡ true) (hm : Home S n b c (shapeOf c)) (d : List ℕ)
-    (H′ : Heap) (R′ : Represents n (mix S b d) H′) (ok′ : Reached n H′) (et : H′ .classes c ≡ H .classes c) (h : ℕ) where
+    (H′ : Heap) (R′ : Represents n (override S b d) H′) (ok′ : Reached n H′) (et : H′ .classes c ≡ H .classes c) (h : ℕ) where
   abbrev hc : ltb c 76 ≡ true
   hc = small-class c hs
 
   s : Setting n b c (shapeOf c)
   s = setting-of n b H R c hc
 
-  s′ : Setting n (mix S b d) c (shapeOf c)
-  s′ = setting-of n (mix S b d) H′ R′ c hc
+  s′ : Setting n (override S b d) c (shapeOf c)
+  s′ = setting-of n (override S b d) H′ R′ c hc
 
-  r′ : StateRep n (mix S b d) c (shapeOf c) (H .classes c)
+  r′ : StateRep n (override S b d) c (shapeOf c) (H .classes c)
   r′ = state-as R′ hc et
 
   -- the pages of blocks that are out
@@ -171,7 +171,7 @@ module _ {S : ℕ → Bool} (n : ℕ) (hn : n ≤ maxPages) (b : List ℕ) (H : 
     abbrev ends : List ℕ → Words.ChunksReleased
     ends b =
         cond (not (chunksMatch b ws gs)) (chunksNone b fs 11)
-        (cond (not (chunksFair n b c (shapeOf c) gs)) (chunksNone b fs 13)
+        (cond (not (chunksValid n b c (shapeOf c) gs)) (chunksNone b fs 13)
         (let w = settleChunks b c (shapeOf c) h ws gs in record { code = 0; book = giveRuns (w .book) (shapeOf c .pages) (w .gives); fates = w .fates ++ drop (length gs) fs }))
 
     reached : (isNil ws || isNil gs) ≡ false → (ltb chunksMax (length gs) || ltb (length fs) (length gs)) ≡ false → (every (ofKind (shapeOf c .kind)) ws && every (ofKind chunkKind) gs) ≡ true
@@ -185,7 +185,7 @@ module _ {S : ℕ → Bool} (n : ℕ) (hn : n ≤ maxPages) (b : List ℕ) (H : 
       outs : every (outAt n b c (shapeOf c)) ws ≡ true
       outs = outs-here s hn (H .classes c) (R .classes c hc) ws k ∙ o
 
-      outs′ : every (outAt n (mix S b d) c (shapeOf c)) ws ≡ true
+      outs′ : every (outAt n (override S b d) c (shapeOf c)) ws ≡ true
       outs′ = outs-here s′ hn (H .classes c) r′ ws k ∙ o
 
       fitting : fit ≡ true → every (Model.chunkFits (shapeOf c) (H .classes c) ws) gs ≡ true
@@ -199,7 +199,7 @@ module _ {S : ℕ → Bool} (n : ℕ) (hn : n ≤ maxPages) (b : List ℕ) (H : 
       apart u = and-left (distinct (map pageOf gs)) (every (Model.chunkFits (shapeOf c) (H .classes c) ws) gs && every (chunked (shapeOf c) (H .classes c) gs) ws) u
 
       given-local : fit ≡ true → (Model.settleChunks (shapeOf c) (H .rules c) h ws (H .classes c) gs .gives ≡ []) ⊎ Roams S H c
-          → (let w = settleChunks b c (shapeOf c) h ws gs in giveRuns (mix S (w .book) d) (shapeOf c .pages) (w .gives) ≡ mix S (giveRuns (w .book) (shapeOf c .pages) (w .gives)) d)
+          → (let w = settleChunks b c (shapeOf c) h ws gs in giveRuns (override S (w .book) d) (shapeOf c .pages) (w .gives) ≡ override S (giveRuns (w .book) (shapeOf c .pages) (w .gives)) d)
       given-local u (inl z) =
           let w = all-settled n hn b H R ok c hs ws k outs once h gs (fitting u) (apart u) in
           rw (w .gives ∙ z)
@@ -209,25 +209,25 @@ module _ {S : ℕ → Bool} (n : ℕ) (hn : n ≤ maxPages) (b : List ℕ) (H : 
           rw (w .gives) (all-local n b H R ok c hc (settleChunks b c (shapeOf c) h ws gs .book) (w .only) (x .class) (w .pages) (w .rep) (a .arena) d (a .kin) (x .gives) (w .named))
 
       acts-local : fit ≡ true → (Model.settleChunks (shapeOf c) (H .rules c) h ws (H .classes c) gs .gives ≡ []) ⊎ Roams S H c
-          → (let w = settleChunks b c (shapeOf c) h ws gs in let w′ = settleChunks (mix S b d) c (shapeOf c) h ws gs in
-          giveRuns (w′ .book) (shapeOf c .pages) (w′ .gives) ≡ mix S (giveRuns (w .book) (shapeOf c .pages) (w .gives)) d)
+          → (let w = settleChunks b c (shapeOf c) h ws gs in let w′ = settleChunks (override S b d) c (shapeOf c) h ws gs in
+          giveRuns (w′ .book) (shapeOf c .pages) (w′ .gives) ≡ override S (giveRuns (w .book) (shapeOf c .pages) (w .gives)) d)
       acts-local u a =
           rw (chunks-in S hn (H .rules c) (small-shape c hs) h ws once b s (R .rules c hc) d (homes-of ws outs) gs (apart u) b (H .classes c) [] (changes-none (ofClass b c) b) hm (R .classes c hc)
           (all-wait n hn b H R ok c hs ws k outs once gs (fitting u)))
           (given-local u a)
 
-      ends-local : (fit ≡ true → (Model.settleChunks (shapeOf c) (H .rules c) h ws (H .classes c) gs .gives ≡ []) ⊎ Roams S H c) → ends (mix S b d) .book ≡ mix S (ends b .book) d
+      ends-local : (fit ≡ true → (Model.settleChunks (shapeOf c) (H .rules c) h ws (H .classes c) gs .gives ≡ []) ⊎ Roams S H c) → ends (override S b d) .book ≡ override S (ends b .book) d
       ends-local a =
           rw (chunks-same s hn (H .classes c) (R .classes c hc) ws k outs gs, chunks-same s′ hn (H .classes c) r′ ws k outs′ gs)
           (by-cases fit
-          (λ u. rw (u, chunks-fair n hn b H R ok c hs ws k outs once h gs (fitting u) (apart u), fair′ u) (acts-local u (a u)))
+          (λ u. rw (u, chunks-valid n hn b H R ok c hs ws k outs once h gs (fitting u) (apart u), valid′ u) (acts-local u (a u)))
           (λ u. rw u))
         where
-          fair′ : fit ≡ true → chunksFair n (mix S b d) c (shapeOf c) gs ≡ true
-          fair′ u = chunks-fair n hn (mix S b d) H′ R′ ok′ c hs ws k outs′ once h gs (rw et (fitting u)) (apart u)
+          valid′ : fit ≡ true → chunksValid n (override S b d) c (shapeOf c) gs ≡ true
+          valid′ u = chunks-valid n hn (override S b d) H′ R′ ok′ c hs ws k outs′ once h gs (rw et (fitting u)) (apart u)
 
     pub group-local : StaysHome (Model.releaseChunks (shapeOf c) (H .rules c) h (H .classes c) ws gs fs) ⊎ Roams S H c
-        → releaseChunks n (mix S b d) c (shapeOf c) h ws gs fs .book ≡ mix S (releaseChunks n b c (shapeOf c) h ws gs fs .book) d
+        → releaseChunks n (override S b d) c (shapeOf c) h ws gs fs .book ≡ override S (releaseChunks n b c (shapeOf c) h ws gs fs .book) d
     unfolding releaseChunks
     group-local a =
         let sh = shapeOf c in

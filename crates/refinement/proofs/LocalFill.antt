@@ -17,19 +17,19 @@ use Rattle.model.proofs.Used.{itself}
 use Rattle.facts.proofs.Bools.{by-cases}
 use Rattle.pages.specs.Runs.{whole}
 use Rattle.pages.specs.Stack.{latest, draw, hasMore}
-use Rattle.pages.specs.Links.{link, unlink, stow, unstow, wake}
+use Rattle.pages.specs.Links.{link, unlink, parkRun, popStore, unparkRun}
 use Rattle.pages.specs.declared.Park.{Park}
-use Rattle.pages.proofs.Downs.{small, every-below}
+use Rattle.pages.proofs.Descending.{small, every-below}
 use Rattle.calls.specs.Take.{Filled, filledNone, thenFilled, unlistSpent, fillFrom}
 use Rattle.refinement.specs.way.Represents.{Slots, heads, ClassRep}
 use Rattle.refinement.proofs.Basics.{Setting, setting-kept}
 use Rattle.refinement.proofs.Frames.{Only, only-owns, whole-kept}
 use Rattle.refinement.proofs.Neighbours.{each-listed, each-head, each-beside}
-use Rattle.refinement.proofs.Moves.{at-partial, from-partial, from-store, to-partial, unlink-only, unstow-only, link-only}
+use Rattle.refinement.proofs.Moves.{at-partial, from-partial, from-store, to-partial, unlink-only, pop-store-only, link-only}
 use Rattle.refinement.proofs.Draw.{latest-fit, draw-data, draw-only, pop-rep}
 use Rattle.refinement.proofs.Fill.{fill-none, fill-empty, stepFilled, fill-step}
-use Rattle.refinement.proofs.Mix.{mix, PageIn, RowIn, get-page, get-row}
-use Rattle.refinement.proofs.LocalPages.{CodeIn, more-in, latest-in, draw-in, link-in, unlink-in, stow-in, unstow-in}
+use Rattle.refinement.proofs.Override.{override, PageIn, RowIn, get-page, get-row}
+use Rattle.refinement.proofs.LocalPages.{CodeIn, more-in, latest-in, draw-in, link-in, unlink-in, park-run-in, pop-store-in}
 
 pub record Home (S : ℕ → Bool) (n : ℕ) (b : List ℕ) (c : ℕ) (sh : Shape) : Type 0 where
   pub row : RowIn S c
@@ -50,7 +50,7 @@ module _ {S : ℕ → Bool} {n : ℕ} {b : List ℕ} {c : ℕ} {sh : Shape} {k :
       → CodeIn S (get b (page next (p .first))) × CodeIn S (get b (page prev (p .first)))
   links-home = each-beside (s .shape) (PageIn S) (h .pages)
 
-  pub unlink-local : (p : Page) (ts : List Page) {xs ys fs : List Page} → ClassRep n b c sh k (p ∷ ts) xs ys fs → unlink (mix S b d) c (p .first) ≡ mix S (unlink b c (p .first)) d
+  pub unlink-local : (p : Page) (ts : List Page) {xs ys fs : List Page} → ClassRep n b c sh k (p ∷ ts) xs ys fs → unlink (override S b d) c (p .first) ≡ override S (unlink b c (p .first)) d
   unlink-local p ts r =
       let i = itself (p .first) in
       let l = links-home [] p ts r in
@@ -59,18 +59,18 @@ module _ {S : ℕ → Bool} {n : ℕ} {b : List ℕ} {c : ℕ} {sh : Shape} {k :
   pub head-home : {ps xs ys fs : List Page} → ClassRep n b c sh k ps xs ys fs → CodeIn S (get b (class partial c))
   head-home = each-head (s .shape) (PageIn S) (h .pages)
 
-  pub link-local : {p : Page} {ps xs ys fs : List Page} → ClassRep n b c sh k ps xs ys (p ∷ fs) → link (mix S b d) c (p .first) ≡ mix S (link b c (p .first)) d
+  pub link-local : {p : Page} {ps xs ys fs : List Page} → ClassRep n b c sh k ps xs ys (p ∷ fs) → link (override S b d) c (p .first) ≡ override S (link b c (p .first)) d
   link-local {p} r = let i = itself (p .first) in link-in (h .row) (page-home (p .first) r (omega arith)) b d (head-home r)
 
-  pub unstow-local : {p : Page} {ps xs ys fs : List Page} → ClassRep n b c sh k ps (p ∷ xs) ys fs → unstow (mix S b d) c k (p .first) ≡ mix S (unstow b c k (p .first)) d
-  unstow-local {p} r = let i = itself (p .first) in unstow-in (h .row) (page-home (p .first) r (omega arith)) b d k
+  pub pop-store-local : {p : Page} {ps xs ys fs : List Page} → ClassRep n b c sh k ps (p ∷ xs) ys fs → popStore (override S b d) c k (p .first) ≡ override S (popStore b c k (p .first)) d
+  pop-store-local {p} r = let i = itself (p .first) in pop-store-in (h .row) (page-home (p .first) r (omega arith)) b d k
 
-  pub stow-local : {p : Page} {ps xs ys fs : List Page} → ClassRep n b c sh k ps xs ys (p ∷ fs) → stow (mix S b d) c k (p .first) ≡ mix S (stow b c k (p .first)) d
-  stow-local {p} r = let i = itself (p .first) in stow-in (h .row) (page-home (p .first) r (omega arith)) b d k
+  pub park-run-local : {p : Page} {ps xs ys fs : List Page} → ClassRep n b c sh k ps xs ys (p ∷ fs) → parkRun (override S b d) c k (p .first) ≡ override S (parkRun b c k (p .first)) d
+  park-run-local {p} r = let i = itself (p .first) in park-run-in (h .row) (page-home (p .first) r (omega arith)) b d k
 
 -- ---- a filling
-abbrev pub beside : (ℕ → Bool) → List ℕ → Filled → Filled
-beside S d f = record { book = mix S (f .book) d; blocks = f .blocks; virgin = f .virgin }
+abbrev pub overrideFilled : (ℕ → Bool) → List ℕ → Filled → Filled
+overrideFilled S d f = record { book = override S (f .book) d; blocks = f .blocks; virgin = f .virgin }
 
 fill-zero : (b : List ℕ) (c : ℕ) (sh : Shape) (m : ℕ) → fillFrom b c sh zero m ≡ filledNone b
 unfolding fillFrom
@@ -80,8 +80,8 @@ module _ {S : ℕ → Bool} {n c : ℕ} {sh : Shape} {k : Park} (d : List ℕ) w
   -- one page's part, with what comes after it
   step-local : (fuel m : ℕ) (b : List ℕ) (p : Page) (ps xs ys fs : List Page) → Setting n b c sh → Home S n b c sh → ClassRep n b c sh k (p ∷ ps) xs ys fs
       → ((m′ : ℕ) (b′ : List ℕ) (ps′ fs′ : List Page) → Setting n b′ c sh → Home S n b′ c sh → ClassRep n b′ c sh k ps′ xs ys fs′
-      → fillFrom (mix S b′ d) c sh fuel m′ ≡ beside S d (fillFrom b′ c sh fuel m′))
-      → stepFilled (mix S b d) c sh fuel m (p .first) ≡ beside S d (stepFilled b c sh fuel m (p .first))
+      → fillFrom (override S b′ d) c sh fuel m′ ≡ overrideFilled S d (fillFrom b′ c sh fuel m′))
+      → stepFilled (override S b d) c sh fuel m (p .first) ≡ overrideFilled S d (stepFilled b c sh fuel m (p .first))
   unfolding unlistSpent pop
   step-local fuel m b p ps xs ys fs s h r ih =
       let q = p .first in
@@ -106,25 +106,25 @@ module _ {S : ℕ → Bool} {n c : ℕ} {sh : Shape} {k : Park} (d : List ℕ) w
       (ap (thenFilled (eqb (get b (page virgin q)) 1) ws) (ih m′ (unlink b₁ c q) ps (p₁ ∷ fs) (setting-kept _ (o₂ .long) s₁) (home-only o₂ h₁) (from-partial s₁ [] p₁ ps r₁)))))
 
   pub fill-local : (fuel m : ℕ) (b : List ℕ) (ps xs ys fs : List Page) → Setting n b c sh → Home S n b c sh → ClassRep n b c sh k ps xs ys fs
-      → fillFrom (mix S b d) c sh fuel m ≡ beside S d (fillFrom b c sh fuel m)
-  fill-local zero m b ps xs ys fs s h r = rw (fill-zero b c sh m, fill-zero (mix S b d) c sh m)
+      → fillFrom (override S b d) c sh fuel m ≡ overrideFilled S d (fillFrom b c sh fuel m)
+  fill-local zero m b ps xs ys fs s h r = rw (fill-zero b c sh m, fill-zero (override S b d) c sh m)
   fill-local (suc fuel) m b [] xs ys fs s h r =
-      rw (fill-empty b c sh (suc fuel) m (r .chain .links), fill-empty (mix S b d) c sh (suc fuel) m (get-row (h .row) b d partial ∙ r .chain .links))
+      rw (fill-empty b c sh (suc fuel) m (r .chain .links), fill-empty (override S b d) c sh (suc fuel) m (get-row (h .row) b d partial ∙ r .chain .links))
   fill-local (suc fuel) m b (p ∷ ps) xs ys fs s h r =
       by-cases (eqb m 0)
-      (λ e. rw (eqb-true m 0 e, fill-none b c sh (suc fuel), fill-none (mix S b d) c sh (suc fuel)))
-      (λ e. rw (fill-step b c sh fuel m (p .first) (r .chain .links .0) e, fill-step (mix S b d) c sh fuel m (p .first) (get-row (h .row) b d partial ∙ r .chain .links .0) e)
+      (λ e. rw (eqb-true m 0 e, fill-none b c sh (suc fuel), fill-none (override S b d) c sh (suc fuel)))
+      (λ e. rw (fill-step b c sh fuel m (p .first) (r .chain .links .0) e, fill-step (override S b d) c sh fuel m (p .first) (get-row (h .row) b d partial ∙ r .chain .links .0) e)
       (step-local fuel m b p ps xs ys fs s h r (λ m′ b′ ps′ fs′ s′ h′ r′. fill-local fuel m′ b′ ps′ xs ys fs′ s′ h′ r′)))
 
   -- the newest page of a store heads the list, and gives its blocks
-  pub wake-local : (m : ℕ) (b : List ℕ) (p : Page) (xs ys fs : List Page) → Setting n b c sh → Home S n b c sh → ClassRep n b c sh k [] (p ∷ xs) ys fs
-      → fillFrom (wake (mix S b d) c k (p .first)) c sh m m ≡ beside S d (fillFrom (wake b c k (p .first)) c sh m m)
-  wake-local m b p xs ys fs s h r =
+  pub unpark-run-local : (m : ℕ) (b : List ℕ) (p : Page) (xs ys fs : List Page) → Setting n b c sh → Home S n b c sh → ClassRep n b c sh k [] (p ∷ xs) ys fs
+      → fillFrom (unparkRun (override S b d) c k (p .first)) c sh m m ≡ overrideFilled S d (fillFrom (unparkRun b c k (p .first)) c sh m m)
+  unpark-run-local m b p xs ys fs s h r =
       let q = p .first in
-      let o₁ = unstow-only s r in
-      let s₁ = setting-kept (unstow b c k q) (o₁ .long) s in
+      let o₁ = pop-store-only s r in
+      let s₁ = setting-kept (popStore b c k q) (o₁ .long) s in
       let h₁ = home-only o₁ h in
       let r₁ = from-store s r in
       let o₂ = link-only s₁ r₁ in
-      rw (unstow-local s h d r, link-local s₁ h₁ d r₁)
-      (fill-local m m (wake b c k q) (p ∷ []) xs ys fs (setting-kept _ (o₂ .long) s₁) (home-only o₂ h₁) (to-partial s₁ r₁))
+      rw (pop-store-local s h d r, link-local s₁ h₁ d r₁)
+      (fill-local m m (unparkRun b c k q) (p ∷ []) xs ys fs (setting-kept _ (o₂ .long) s₁) (home-only o₂ h₁) (to-partial s₁ r₁))

@@ -26,9 +26,9 @@ use Rattle.calls.specs.Chunks.{giveRuns}
 use Rattle.refinement.specs.way.Represents.{firsts, StateRep, Represents}
 use Rattle.refinement.proofs.Frames.{Only, whole-says}
 use Rattle.refinement.proofs.ArenaReached.{Reached}
-use Rattle.refinement.proofs.ArenaFair.{loads-frontier, loads-number}
+use Rattle.refinement.proofs.ArenaValid.{loads-frontier, loads-number}
 use Rattle.refinement.proofs.ReleaseGives.{waiting, state, next, next-reached, next-represents, next-class, left, left-represents, left-reached, left-class}
-use Rattle.refinement.proofs.Mix.{mix, PageIn}
+use Rattle.refinement.proofs.Override.{override, PageIn}
 use Rattle.refinement.proofs.LocalArena.{ArenaIn, RunIn, given-in}
 
 module _ (n c : ℕ) (hc : ltb c 76 ≡ true) {S : ℕ → Bool} (ai : ArenaIn S) (d : List ℕ) where
@@ -46,7 +46,7 @@ module _ (n c : ℕ) (hc : ltb c 76 ≡ true) {S : ℕ → Bool} (ai : ArenaIn S
 
   gives-local : (ps : List Page) (s : Class) (b : List ℕ) (H : Heap) → Reached n H → Represents n b H → H .classes c ≡ waiting s ps
       → ((x : ℕ) → ownerCode (H .holder x) ≡ suc c → PageIn S x)
-      → giveRuns (mix S b d) (shapeOf c .pages) (firsts ps) ≡ mix S (giveRuns b (shapeOf c .pages) (firsts ps)) d
+      → giveRuns (override S b d) (shapeOf c .pages) (firsts ps) ≡ override S (giveRuns b (shapeOf c .pages) (firsts ps)) d
   unfolding next
   gives-local [] s b H ok R e kin = refl
   gives-local (p ∷ ps) s b H ok R e kin =
@@ -63,9 +63,9 @@ module _ (n c : ℕ) (hc : ltb c 76 ≡ true) {S : ℕ → Bool} (ai : ArenaIn S
 -- ---- after a call changed words of class c only, which is left with the pages ps that go to the arena; qs are their runs
 pub all-local : {S : ℕ → Bool} (n : ℕ) (b : List ℕ) (H : Heap) (R : Represents n b H) (ok : Reached n H) (c : ℕ) (hc : ltb c 76 ≡ true) (b′ : List ℕ) (only : Only c b b′) (s : Class) (ps : List Page)
     (rep : StateRep n b′ c (shapeOf c) (waiting s ps)) → ArenaIn S → (d : List ℕ) → ((x : ℕ) → ownerCode (H .holder x) ≡ suc c → PageIn S x) → (qs : List ℕ) → firsts ps ≡ qs
-    → giveRuns (mix S b′ d) (shapeOf c .pages) qs ≡ mix S (giveRuns b′ (shapeOf c .pages) qs) d
+    → giveRuns (override S b′ d) (shapeOf c .pages) qs ≡ override S (giveRuns b′ (shapeOf c .pages) qs) d
 unfolding left
 all-local {S} n b H R ok c hc b′ only s ps rep ai d kin qs e =
-    subst (λ (l : List ℕ). giveRuns (mix S b′ d) (shapeOf c .pages) l ≡ mix S (giveRuns b′ (shapeOf c .pages) l) d) e
+    subst (λ (l : List ℕ). giveRuns (override S b′ d) (shapeOf c .pages) l ≡ override S (giveRuns b′ (shapeOf c .pages) l) d) e
     (gives-local n c hc ai d ps s b′ (left n b H R ok c hc b′ only s ps rep) (left-reached n b H R ok c hc b′ only s ps rep) (left-represents n b H R ok c hc b′ only s ps rep)
     (left-class n b H R ok c hc b′ only s ps rep) kin)

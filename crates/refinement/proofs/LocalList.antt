@@ -25,7 +25,7 @@ use Rattle.model.proofs.Counts.{distinct-count}
 use Rattle.arena.specs.Owners.{ownerCode}
 use Rattle.pages.specs.Stack.{indexOf}
 use Rattle.calls.specs.Out.{startOf, outAt}
-use Rattle.calls.specs.Release.{Released, releasedNone, lastStep, giveBackAt, releaseFair, releaseBlocks}
+use Rattle.calls.specs.Release.{Released, releasedNone, lastStep, giveBackAt, releaseValid, releaseBlocks}
 use Rattle.refinement.specs.way.Represents.{StateRep, Represents}
 use Rattle.refinement.proofs.Basics.{Setting}
 use Rattle.refinement.proofs.ArenaReached.{Reached}
@@ -34,14 +34,14 @@ use Rattle.refinement.proofs.Found.{At, found-at, placed-rep, same-page
 use Rattle.refinement.proofs.OutTests.{once-here, fault-same}
 use Rattle.refinement.proofs.Returned.{return-room}
 use Rattle.refinement.proofs.Release.{SettledRep, stays, goes, settle-list}
-use Rattle.refinement.proofs.ReleaseFair.{release-fair}
+use Rattle.refinement.proofs.ReleaseValid.{release-valid}
 use Rattle.refinement.proofs.LocalGives.{all-local}
 use Rattle.refinement.proofs.ChunkTests.{SiteOf, site-of}
-use Rattle.refinement.proofs.Mix.{mix, PageIn}
+use Rattle.refinement.proofs.Override.{override, PageIn}
 use Rattle.refinement.proofs.LocalFill.{Home}
 use Rattle.refinement.proofs.LocalArena.{ArenaIn}
 use Rattle.refinement.proofs.LocalBack as One
-use Rattle.refinement.proofs.LocalBack.{besideR}
+use Rattle.refinement.proofs.LocalBack.{overrideReleased}
 
 -- what a call that reaches the arena may touch besides the class's words
 pub record Roams (S : ℕ → Bool) (H : Heap) (c : ℕ) : Type 0 where
@@ -55,19 +55,19 @@ home-gives r (Demands.stays s a) e = let z : record { class = s; answer = a; giv
 module _ {S : ℕ → Bool} (n : ℕ) (hn : n ≤ maxPages) (b : List ℕ) (H : Heap) (R : Represents n b H) (ok : Reached n H) (c : ℕ) (hc : ltb c 76 ≡ true) (hm : Home S n b c (shapeOf c)) (d : List ℕ) where
   -- the last step, where a run may be given
   last-local : (q : ℕ) {w : Released} {y : Settled} → SettledRep n b c (shapeOf c) [] 2 q w y → (y .gives ≡ []) ⊎ Roams S H c
-      → lastStep (shapeOf c) q (besideR S d w) .book ≡ mix S (lastStep (shapeOf c) q w .book) d
+      → lastStep (shapeOf c) q (overrideReleased S d w) .book ≡ override S (lastStep (shapeOf c) q w .book) d
   last-local q (stays {f = f} ne r o) a = rw (ne-eqb f 2 ne)
   last-local q (goes p e r o) (inl z) = absurd (let y : _≡_ {A = ℕ} 0 1 = ap length (sym z) ∙ refl in omega arith)
   last-local q (goes {b′ = b′} {s = t} p e r o) (inr a) = all-local n b H R ok c hc b′ o t (p ∷ []) r (a .arena) d (a .kin) (q ∷ []) (ap (λ x. x ∷ []) e)
 
-  module _ (H′ : Heap) (R′ : Represents n (mix S b d) H′) (ok′ : Reached n H′) (et : H′ .classes c ≡ H .classes c) (h : ℕ) where
+  module _ (H′ : Heap) (R′ : Represents n (override S b d) H′) (ok′ : Reached n H′) (et : H′ .classes c ≡ H .classes c) (h : ℕ) where
     s : Setting n b c (shapeOf c)
     s = setting-of n b H R c hc
 
-    s′ : Setting n (mix S b d) c (shapeOf c)
-    s′ = setting-of n (mix S b d) H′ R′ c hc
+    s′ : Setting n (override S b d) c (shapeOf c)
+    s′ = setting-of n (override S b d) H′ R′ c hc
 
-    r′ : StateRep n (mix S b d) c (shapeOf c) (H .classes c)
+    r′ : StateRep n (override S b d) c (shapeOf c) (H .classes c)
     r′ = state-as R′ hc et
 
     abbrev ask : List ℕ → Ask
@@ -76,7 +76,7 @@ module _ {S : ℕ → Bool} (n : ℕ) (hn : n ≤ maxPages) (b : List ℕ) (H : 
     abbrev rest : List ℕ → List ℕ → ℕ → Released
     rest b ws q =
         cond (not (every (λ w. eqb (startOf b w) q) ws)) (releasedNone b 11)
-        (cond (not (releaseFair n b c (shapeOf c) (length ws) q)) (releasedNone b 13)
+        (cond (not (releaseValid n b c (shapeOf c) (length ws) q)) (releasedNone b 13)
         (lastStep (shapeOf c) q (giveBackAt b c (shapeOf c) h q (map (indexOf (shapeOf c) q) ws))))
 
     module _ (w : ℕ) (ws : List ℕ) (a : StaysHome (releaseList (shapeOf c) (H .rules c) h (H .classes c) (w ∷ ws)) ⊎ Roams S H c)
@@ -87,7 +87,7 @@ module _ {S : ℕ → Bool} (n : ℕ) (hn : n ≤ maxPages) (b : List ℕ) (H : 
       outs : every (outAt n b c (shapeOf c)) (w ∷ ws) ≡ true
       outs = outs-here s hn (H .classes c) (R .classes c hc) us k ∙ o
 
-      outs′ : every (outAt n (mix S b d) c (shapeOf c)) (w ∷ ws) ≡ true
+      outs′ : every (outAt n (override S b d) c (shapeOf c)) (w ∷ ws) ≡ true
       outs′ = outs-here s′ hn (H .classes c) r′ us k ∙ o
 
       k₁ : ofKind (shapeOf c .kind) w ≡ true
@@ -97,7 +97,7 @@ module _ {S : ℕ → Bool} (n : ℕ) (hn : n ≤ maxPages) (b : List ℕ) (H : 
       x = site-of s hn (H .classes c) (R .classes c hc) w k₁ (and-left (outAt n b c (shapeOf c) w) (every (outAt n b c (shapeOf c)) ws) outs)
 
       x′ : SiteOf s′ hn (H .classes c) r′ w
-      x′ = site-of s′ hn (H .classes c) r′ w k₁ (and-left (outAt n (mix S b d) c (shapeOf c) w) (every (outAt n (mix S b d) c (shapeOf c)) ws) outs′)
+      x′ = site-of s′ hn (H .classes c) r′ w k₁ (and-left (outAt n (override S b d) c (shapeOf c) w) (every (outAt n (override S b d) c (shapeOf c)) ws) outs′)
 
       one : x′ .site ≡ x .site
       one = Option·some-injective (x′ .site) (x .site) (sym (x′ .is) ∙ x .is)
@@ -105,8 +105,8 @@ module _ {S : ℕ → Bool} (n : ℕ) (hn : n ≤ maxPages) (b : List ℕ) (H : 
       abbrev p : At n b c (shapeOf c) [] (x .site)
       p = found-at {zs = []} (R .classes c hc) (x .found)
 
-      p′ : At n (mix S b d) c (shapeOf c) [] (x .site)
-      p′ = subst (λ (y : Site). At n (mix S b d) c (shapeOf c) [] y) one (found-at {zs = []} r′ (x′ .found))
+      p′ : At n (override S b d) c (shapeOf c) [] (x .site)
+      p′ = subst (λ (y : Site). At n (override S b d) c (shapeOf c) [] y) one (found-at {zs = []} r′ (x′ .found))
 
       few : (v : ℕ) → count v (w ∷ ws) ≤ 1
       few v = distinct-count v us (once-here (shapeOf c) (H .classes c) us single o)
@@ -123,7 +123,7 @@ module _ {S : ℕ → Bool} (n : ℕ) (hn : n ≤ maxPages) (b : List ℕ) (H : 
           inl (home-gives (record { class = y .class; answer = fate (y .fate); gives = y .gives }) z (asked u))
       allowed u (inr z) = inr z
 
-      settled-local : every (λ v. isOut (shapeOf c) v (x .site .page)) (w ∷ ws) ≡ true → rest (mix S b d) us (x .site .page .first) .book ≡ mix S (rest b us (x .site .page .first) .book) d
+      settled-local : every (λ v. isOut (shapeOf c) v (x .site .page)) (w ∷ ws) ≡ true → rest (override S b d) us (x .site .page .first) .book ≡ override S (rest b us (x .site .page .first) .book) d
       settled-local u =
           let room = return-room s hn (placed-rep (p .placed)) us u few in
           let room′ = return-room s′ hn (placed-rep (p′ .placed)) us u few in
@@ -131,23 +131,23 @@ module _ {S : ℕ → Bool} (n : ℕ) (hn : n ≤ maxPages) (b : List ℕ) (H : 
           rw (
             sym (same-pages s hn (placed-rep (p .placed)) us k outs) ∙ u,
             sym (same-pages s′ hn (placed-rep (p′ .placed)) us k outs′) ∙ u,
-            release-fair n b H R ok c s (length us) (omega arith) (p .placed),
-            release-fair n (mix S b d) H′ R′ ok′ c s′ (length us) (omega arith) (p′ .placed),
+            release-valid n b H R ok c s (length us) (omega arith) (p .placed),
+            release-valid n (override S b d) H′ R′ ok′ c s′ (length us) (omega arith) (p′ .placed),
             One.list-local s hn hm h d (x .site) (p .placed) us u few,
           )
           (last-local (x .site .page .first) (settle-list s hn (R .rules c hc) h (x .site) (p .placed) us u few) (allowed u a))
 
-      at-start : (q q′ : ℕ) → q ≡ x .site .page .first → q′ ≡ x .site .page .first → rest (mix S b d) us q′ .book ≡ mix S (rest b us q .book) d
+      at-start : (q q′ : ℕ) → q ≡ x .site .page .first → q′ ≡ x .site .page .first → rest (override S b d) us q′ .book ≡ override S (rest b us q .book) d
       at-start q q′ e e′ =
           rw (e, e′)
           (by-cases (every (λ v. isOut (shapeOf c) v (x .site .page)) us) settled-local
           (λ u. rw (sym (same-pages s hn (placed-rep (p .placed)) us k outs) ∙ u, sym (same-pages s′ hn (placed-rep (p′ .placed)) us k outs′) ∙ u)))
 
-      page-local : rest (mix S b d) us (startOf (mix S b d) w) .book ≡ mix S (rest b us (startOf b w) .book) d
-      page-local = at-start (startOf b w) (startOf (mix S b d) w) (x .start) (x′ .start ∙ ap (λ (y : Site). y .page .first) one)
+      page-local : rest (override S b d) us (startOf (override S b d) w) .book ≡ override S (rest b us (startOf b w) .book) d
+      page-local = at-start (startOf b w) (startOf (override S b d) w) (x .start) (x′ .start ∙ ap (λ (y : Site). y .page .first) one)
 
     pub list-local : (ws : List ℕ) → StaysHome (releaseList (shapeOf c) (H .rules c) h (H .classes c) ws) ⊎ Roams S H c
-        → releaseBlocks n (mix S b d) c (shapeOf c) h ws .book ≡ mix S (releaseBlocks n b c (shapeOf c) h ws .book) d
+        → releaseBlocks n (override S b d) c (shapeOf c) h ws .book ≡ override S (releaseBlocks n b c (shapeOf c) h ws .book) d
     unfolding releaseBlocks
     list-local [] a = refl
     list-local (w ∷ ws) a =

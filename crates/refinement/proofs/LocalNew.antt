@@ -21,13 +21,13 @@ use Rattle.calls.specs.Take.{onRun, takeNew}
 use Rattle.arena.specs.Calls.{commitBook}
 use Rattle.refinement.specs.way.Represents.{ClassRep, Represents}
 use Rattle.refinement.proofs.ArenaReached.{Reached}
-use Rattle.refinement.proofs.ArenaFair.{loads-frontier}
+use Rattle.refinement.proofs.ArenaValid.{loads-frontier}
 use Rattle.refinement.proofs.CommitRep.{commit-for}
 use Rattle.refinement.proofs.CommitRuns.{run-nobody}
 use Rattle.refinement.proofs.Pushes.{carve-first}
 use Rattle.refinement.proofs.Join.{same, new-setting, class-joins}
 use Rattle.refinement.proofs.TakeWhole.{run-setting, run-rep, run-only}
-use Rattle.refinement.proofs.Mix.{mix, PageIn}
+use Rattle.refinement.proofs.Override.{override, PageIn}
 use Rattle.refinement.proofs.LocalFill.{Home, home-only, link-local, fill-local}
 use Rattle.refinement.proofs.LocalArena.{ArenaIn, RunIn, committed-in, new-in}
 
@@ -43,12 +43,12 @@ module _ {S : ℕ → Bool} (n : ℕ) (b : List ℕ) (H : Heap) (R : Represents 
   run-in : (q : ℕ) → commit n h (shapeOf c .pages) (H .arena) .run ≡ some q → RunIn S q (shapeOf c .pages)
   run-in q e x u v = idle x (λ w. run-nobody n b H (R .arena) ok h (shapeOf c .pages) (shape-sound c .paged) q e x (rw (le-leb q x u, lt-ltb x (q + shapeOf c .pages) v)))
 
-  after-in : commitBook n (mix S b d) h (shapeOf c .pages) (H .arena) (suc c) ≡ mix S after d
+  after-in : commitBook n (override S b d) h (shapeOf c .pages) (H .arena) (suc c) ≡ override S after d
   after-in =
       committed-in ai d n b h (shapeOf c .pages) (H .arena) (suc c) (ok .tidy .slots)
       (λ x u v. idle x (λ w. absurd (omega (arith, loads-frontier b (H .arena) (R .arena .loads))))) run-in
 
-  with-run : (q : ℕ) → commit n h (shapeOf c .pages) (H .arena) .run ≡ some q → onRun (mix S after d) c (shapeOf c) l (some q) .book ≡ mix S (onRun after c (shapeOf c) l (some q) .book) d
+  with-run : (q : ℕ) → commit n h (shapeOf c .pages) (H .arena) .run ≡ some q → onRun (override S after d) c (shapeOf c) l (some q) .book ≡ override S (onRun after c (shapeOf c) l (some q) .book) d
   unfolding onRun
   with-run q e =
       let sh = shapeOf c in
@@ -64,21 +64,21 @@ module _ {S : ℕ → Bool} (n : ℕ) (b : List ℕ) (H : Heap) (R : Represents 
           | no y ↦ hm .pages x (sym (same n b H R ok c hc h q e c x (λ t. y)) ∙ w)
         ];
       } in
-      let k₃ : link (mix S (newRun after (shapeOf c) q) d) c q ≡ mix S (link (newRun after (shapeOf c) q) c q) d
-      = subst (λ (x : ℕ). link (mix S (newRun after (shapeOf c) q) d) c x ≡ mix S (link (newRun after (shapeOf c) q) c x) d) start (link-local s₂ h₂ d r₂) in
+      let k₃ : link (override S (newRun after (shapeOf c) q) d) c q ≡ override S (link (newRun after (shapeOf c) q) c q) d
+      = subst (λ (x : ℕ). link (override S (newRun after (shapeOf c) q) d) c x ≡ override S (link (newRun after (shapeOf c) q) c x) d) start (link-local s₂ h₂ d r₂) in
       rw (
         new-in d after sh q (shape-sound c .few) (shape-sound c .paged) (run-in q e),
         k₃,
         fill-local d (sh .batch) (sh .batch) (link b₂ c q) (p ∷ []) [] [] fs (run-setting n b H R ok c hc h l fs z q e) (home-only (run-only n b H R ok c hc h l fs z q e) h₂) (run-rep n b H R ok c hc h l fs z q e),
       )
 
-  with-answer : (o : Option ℕ) → commit n h (shapeOf c .pages) (H .arena) .run ≡ o → onRun (mix S after d) c (shapeOf c) l o .book ≡ mix S (onRun after c (shapeOf c) l o .book) d
+  with-answer : (o : Option ℕ) → commit n h (shapeOf c .pages) (H .arena) .run ≡ o → onRun (override S after d) c (shapeOf c) l o .book ≡ override S (onRun after c (shapeOf c) l o .book) d
   unfolding onRun
   with-answer none e = refl
   with-answer (some q) e = with-run q e
 
-  pub new-local : (H′ : Heap) → Represents n (mix S b d) H′ → Reached n H′ → H′ .arena ≡ H .arena → takeNew n (mix S b d) c (shapeOf c) h l .book ≡ mix S (takeNew n b c (shapeOf c) h l .book) d
+  pub new-local : (H′ : Heap) → Represents n (override S b d) H′ → Reached n H′ → H′ .arena ≡ H .arena → takeNew n (override S b d) c (shapeOf c) h l .book ≡ override S (takeNew n b c (shapeOf c) h l .book) d
   unfolding takeNew
   new-local H′ R′ ok′ e =
-      rw (commit-for n b H (R .arena) ok h (shapeOf c .pages) (suc c), commit-for n (mix S b d) H′ (R′ .arena) ok′ h (shapeOf c .pages) (suc c), e, after-in)
+      rw (commit-for n b H (R .arena) ok h (shapeOf c .pages) (suc c), commit-for n (override S b d) H′ (R′ .arena) ok′ h (shapeOf c .pages) (suc c), e, after-in)
       (with-answer (grant .run) refl)

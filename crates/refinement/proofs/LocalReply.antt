@@ -33,19 +33,19 @@ use Rattle.calls.specs.Chunks.{releaseChunks}
 use Rattle.refinement.specs.way.Represents.{StateRep, Represents}
 use Rattle.refinement.specs.Run.{classReply}
 use Rattle.refinement.proofs.ArenaReached.{Reached}
-use Rattle.refinement.proofs.ArenaFair.{loads-frontier}
+use Rattle.refinement.proofs.ArenaValid.{loads-frontier}
 use Rattle.refinement.proofs.Book.{setting-of, state-as, frontier-in}
 use Rattle.refinement.proofs.Frames.{whole-owner, whole-below}
 use Rattle.refinement.proofs.ArenaHolders.{small-class}
-use Rattle.refinement.proofs.Mix.{mix, mix-same, PageIn, swapped}
+use Rattle.refinement.proofs.Override.{override, override-same, PageIn, swapped}
 use Rattle.refinement.proofs.LocalFill.{Home}
 use Rattle.refinement.proofs.LocalTake.{take-local}
 use Rattle.refinement.proofs.LocalNew.{new-local}
 use Rattle.refinement.proofs.LocalList.{Roams, list-local}
 use Rattle.refinement.proofs.LocalChunks.{group-local}
 use Rattle.refinement.proofs.Lengths.{Ours, reply-long}
-use Rattle.refinement.specs.way.Foot.{foot, off}
-use Rattle.refinement.proofs.Foot.{foot-home, off-home, off-arena, off-page}
+use Rattle.refinement.specs.way.Footprint.{footprint, off}
+use Rattle.refinement.proofs.Footprint.{footprint-home, off-home, off-arena, off-page}
 
 pub ours-row : (c : ℕ) (x : Request) → Ours c x → ltb c 76 ≡ true
 ours-row c (take h l) e = e
@@ -58,18 +58,18 @@ pub record Abroad (S : ℕ → Bool) (H H′ : Heap) (c : ℕ) : Type 0 where
   pub idle : (x : ℕ) → (x < H .arena .frontier → H .holder x ≡ nobody) → PageIn S x
   pub arena : H′ .arena ≡ H .arena
 
-module _ {S : ℕ → Bool} (n : ℕ) (hn : n ≤ maxPages) (b : List ℕ) (H : Heap) (R : Represents n b H) (ok : Reached n H) (d : List ℕ) (H′ : Heap) (R′ : Represents n (mix S b d) H′) (ok′ : Reached n H′)
+module _ {S : ℕ → Bool} (n : ℕ) (hn : n ≤ maxPages) (b : List ℕ) (H : Heap) (R : Represents n b H) (ok : Reached n H) (d : List ℕ) (H′ : Heap) (R′ : Represents n (override S b d) H′) (ok′ : Reached n H′)
     (c : ℕ) (listed : Listed (shapeOf c) (H .classes c)) (et : H′ .classes c ≡ H .classes c) (hm : Home S n b c (shapeOf c)) where
   pub reply-local : (x : Request) → Ours c x → StaysHome (answer (shapeOf c) (H .rules c) (H .classes c) x) ⊎ Abroad S H H′ c
-      → classReply n (mix S b d) c x .book ≡ mix S (classReply n b c x .book) d
+      → classReply n (override S b d) c x .book ≡ override S (classReply n b c x .book) d
   unfolding answer
   reply-local (take h l) hc a =
-      take-local d (setting-of n b H R c hc) (setting-of n (mix S b d) H′ R′ c hc) hm (frontier-in n b H R ok) (frontier-in n (mix S b d) H′ R′ ok′) h l (H .classes c)
+      take-local d (setting-of n b H R c hc) (setting-of n (override S b d) H′ R′ c hc) hm (frontier-in n b H R ok) (frontier-in n (override S b d) H′ R′ ok′) h l (H .classes c)
       (λ u. go u a) (listed .partial) (R .classes c hc) (state-as R′ hc et)
     where
       go : ltb (length l) (shapeOf c .batch) ≡ false → StaysHome (answer (shapeOf c) (H .rules c) (H .classes c) (take h l)) ⊎ Abroad S H H′ c
           → StaysHome (takeFrom (shapeOf c) l (H .classes c .partial) (H .classes c .empty) (H .classes c .cold) (H .classes c .full))
-          ⊎ ((fs : List Page) → StateRep n b c (shapeOf c) (lists [] [] [] fs) → takeNew n (mix S b d) c (shapeOf c) h l .book ≡ mix S (takeNew n b c (shapeOf c) h l .book) d)
+          ⊎ ((fs : List Page) → StateRep n b c (shapeOf c) (lists [] [] [] fs) → takeNew n (override S b d) c (shapeOf c) h l .book ≡ override S (takeNew n b c (shapeOf c) h l .book) d)
       go u (inl z) = inl (rw u at z)
       go u (inr z) = inr (λ fs r. new-local n b H R ok c hc hm d (z .roams .arena) (z .idle) h l fs r H′ R′ ok′ (z .arena))
   reply-local (giveBack h ws) hc a = list-local n hn b H R ok c hc hm d H′ R′ ok′ et h ws (go a)
@@ -128,12 +128,12 @@ module _ (n : ℕ) (hn : n ≤ maxPages) (b : List ℕ) (H : Heap) (R : Represen
   pub books : classReply n (classReply n b d y .book) c x .book ≡ classReply n (classReply n b c x .book) d y .book
   unfolding off
   books =
-      let S = foot n b (shapeOf c) c in
+      let S = footprint n b (shapeOf c) c in
       let T = off n b (shapeOf c) c in
-      let hS = foot-home n b (shapeOf c) c row in
+      let hS = footprint-home n b (shapeOf c) c row in
       let hT = off-home n b (shapeOf c) c row (shape-sound c) d (ours-row d y oy) apart (shape-sound d) in
-      swapped (foot n b (shapeOf c) c) (λ m. classReply n m c x .book) (λ m. classReply n m d y .book) b (reply-long n hn b H R ok c lc x ox) (reply-long n hn b H R ok d ld y oy)
-      (reply-local n hn b H R ok b H (subst (λ (m : List ℕ). Represents n m H) (sym (mix-same S b)) R) ok c lc refl hS x ox (inl home))
+      swapped (footprint n b (shapeOf c) c) (λ m. classReply n m c x .book) (λ m. classReply n m d y .book) b (reply-long n hn b H R ok c lc x ox) (reply-long n hn b H R ok d ld y oy)
+      (reply-local n hn b H R ok b H (subst (λ (m : List ℕ). Represents n m H) (sym (override-same S b)) R) ok c lc refl hS x ox (inl home))
       (λ e. reply-local n hn b H R ok (classReply n b d y .book) Hy (subst (λ (m : List ℕ). Represents n m Hy) e Ry) oky c lc sameC hS x ox (inl home))
-      (reply-local n hn b H R ok b H (subst (λ (m : List ℕ). Represents n m H) (sym (mix-same T b)) R) ok d ld refl hT y oy (inr (away refl)))
+      (reply-local n hn b H R ok b H (subst (λ (m : List ℕ). Represents n m H) (sym (override-same T b)) R) ok d ld refl hT y oy (inr (away refl)))
       (λ e. reply-local n hn b H R ok (classReply n b c x .book) Hx (subst (λ (m : List ℕ). Represents n m Hx) e Rx) okx d ld sameD hT y oy (inr (away arena)))

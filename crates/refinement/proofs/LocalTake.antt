@@ -20,8 +20,8 @@ use Rattle.refinement.proofs.Basics.{Setting}
 use Rattle.refinement.proofs.Moves.{swap}
 use Rattle.refinement.proofs.Fill.{AllMore}
 use Rattle.refinement.proofs.Sources.{take-partial, take-empty, take-cold, take-none}
-use Rattle.refinement.proofs.Mix.{mix}
-use Rattle.refinement.proofs.LocalFill.{Home, fill-local, wake-local}
+use Rattle.refinement.proofs.Override.{override}
+use Rattle.refinement.proofs.LocalFill.{Home, fill-local, unpark-run-local}
 
 isDone : Ask → Bool
 isDone (done r) = true
@@ -32,14 +32,14 @@ unfolding isDone
 home-done (stays s a) = refl
 
 -- two books that stand for one state of the class; n where no page is at hand
-module _ {S : ℕ → Bool} {n : ℕ} {b : List ℕ} {c : ℕ} {sh : Shape} (d : List ℕ) (s : Setting n b c sh) (s′ : Setting n (mix S b d) c sh) (hm : Home S n b c sh)
-    (low : ltb n (get b (arena frontier)) ≡ false) (low′ : ltb n (get (mix S b d) (arena frontier)) ≡ false) (h : ℕ) (l : List ℕ) where
+module _ {S : ℕ → Bool} {n : ℕ} {b : List ℕ} {c : ℕ} {sh : Shape} (d : List ℕ) (s : Setting n b c sh) (s′ : Setting n (override S b d) c sh) (hm : Home S n b c sh)
+    (low : ltb n (get b (arena frontier)) ≡ false) (low′ : ltb n (get (override S b d) (arena frontier)) ≡ false) (h : ℕ) (l : List ℕ) where
   -- it stays at home, or a new run is local too
   abbrev pub Asks : Ask → Type 0
-  Asks q = StaysHome q ⊎ ((fs : List Page) → StateRep n b c sh (lists [] [] [] fs) → takeNew n (mix S b d) c sh h l .book ≡ mix S (takeNew n b c sh h l .book) d)
+  Asks q = StaysHome q ⊎ ((fs : List Page) → StateRep n b c sh (lists [] [] [] fs) → takeNew n (override S b d) c sh h l .book ≡ override S (takeNew n b c sh h l .book) d)
 
-  blocks-local : (ps es : List Page) (cs : List Model.Cold) (fs : List Page) → Asks (takeFrom sh l ps es cs fs) → AllMore sh ps → StateRep n b c sh (lists ps es cs fs) → StateRep n (mix S b d) c sh (lists ps es cs fs)
-      → takeBlocks n (mix S b d) c sh h l .book ≡ mix S (takeBlocks n b c sh h l .book) d
+  blocks-local : (ps es : List Page) (cs : List Model.Cold) (fs : List Page) → Asks (takeFrom sh l ps es cs fs) → AllMore sh ps → StateRep n b c sh (lists ps es cs fs) → StateRep n (override S b d) c sh (lists ps es cs fs)
+      → takeBlocks n (override S b d) c sh h l .book ≡ override S (takeBlocks n b c sh h l .book) d
   unfolding takeFrom isDone
   blocks-local (p ∷ ps) es cs fs a g r r′ =
       rw (
@@ -51,19 +51,19 @@ module _ {S : ℕ → Bool} {n : ℕ} {b : List ℕ} {c : ℕ} {sh : Shape} (d :
       rw (
         take-empty s low h l e es cs fs r,
         take-empty s′ low′ h l e es cs fs r′,
-        wake-local d (sh .batch) b (reused sh e) (map (reused sh) es) (map (thawed sh) cs) fs s hm r,
+        unpark-run-local d (sh .batch) b (reused sh e) (map (reused sh) es) (map (thawed sh) cs) fs s hm r,
       )
   blocks-local [] [] (e ∷ cs) fs a g r r′ =
       rw (
         take-cold s low h l e cs fs r,
         take-cold s′ low′ h l e cs fs r′,
-        wake-local d (sh .batch) b (thawed sh e) (map (thawed sh) cs) [] fs s hm (swap r),
+        unpark-run-local d (sh .batch) b (thawed sh e) (map (thawed sh) cs) [] fs s hm (swap r),
       )
   blocks-local [] [] [] fs (inl z) g r r′ = absurd (true≢false (sym (home-done z)))
   blocks-local [] [] [] fs (inr f) g r r′ = rw (take-none s low h l fs r, take-none s′ low′ h l fs r′) (f fs r)
 
-  pub take-local : (t : Class) → (ltb (length l) (sh .batch) ≡ false → Asks (takeFrom sh l (t .partial) (t .empty) (t .cold) (t .full))) → AllMore sh (t .partial) → StateRep n b c sh t → StateRep n (mix S b d) c sh t
-      → takeCall n (mix S b d) c sh h l .book ≡ mix S (takeCall n b c sh h l .book) d
+  pub take-local : (t : Class) → (ltb (length l) (sh .batch) ≡ false → Asks (takeFrom sh l (t .partial) (t .empty) (t .cold) (t .full))) → AllMore sh (t .partial) → StateRep n b c sh t → StateRep n (override S b d) c sh t
+      → takeCall n (override S b d) c sh h l .book ≡ override S (takeCall n b c sh h l .book) d
   unfolding takeCall
   take-local t a g r r′ =
       by-cases (ltb (length l) (sh .batch)) (λ u. rw u) (λ u. rw u (blocks-local (t .partial) (t .empty) (t .cold) (t .full) (a u) g r r′))

@@ -22,8 +22,8 @@ use Rattle.model.proofs.Find.{all-at}
 use Rattle.pages.specs.Runs.{whole}
 use Rattle.pages.specs.declared.Park.{Park}
 use Rattle.pages.specs.declared.Park.the-variants.{Empty, Cold}
-use Rattle.pages.specs.Links.{linked, unlinked, link, unlink, other, top, stored, stow, unstow}
-use Rattle.pages.proofs.Downs.{digit-le}
+use Rattle.pages.specs.Links.{linked, unlinked, link, unlink, other, top, stored, parkRun, popStore}
+use Rattle.pages.proofs.Descending.{digit-le}
 use Rattle.model.proofs.Used.{itself}
 use Rattle.refinement.specs.way.Chain.{In, Chain}
 use Rattle.refinement.specs.way.Represents.{PageRep, Parked, firsts, heads, ClassRep}
@@ -33,8 +33,8 @@ use Rattle.refinement.proofs.Lists.{in-left, in-count, off, not-in, fir
 use Rattle.refinement.proofs.Frames.{isData, ofClass, Only, data-owns, whole-kept, whole-owner, whole-in}
 use Rattle.refinement.proofs.Kept.{Body, Ties, rep-kept, rep-moved, parked-kept, stack-kept, chain-kept, class-now, listed-whole}
 use Rattle.refinement.proofs.Neighbours.{each-listed, each-head, each-beside}
-use Rattle.refinement.proofs.Links.{isLink, isStow, link-lets, class-lets, link-changes, unlink-changes, link-owns, link-body, link-listing, link-next, link-top, link-stored, stow-lets, class-lets-stow, stow-changes, unstow-changes, stow-owns, stow-body, stow-listing, stow-ties, stow-partial, stow-top, stow-stored}
-use Rattle.refinement.proofs.Linked.{chain-linked, chain-unlinked, stack-stowed, stack-unstowed}
+use Rattle.refinement.proofs.Links.{isLink, isParkRun, link-lets, class-lets, link-changes, unlink-changes, link-owns, link-body, link-listing, link-next, link-top, link-stored, park-run-lets, class-lets-park-run, park-run-changes, pop-store-changes, park-run-owns, park-run-body, park-run-listing, park-run-ties, park-run-partial, park-run-top, park-run-stored}
+use Rattle.refinement.proofs.Linked.{chain-linked, chain-unlinked, stack-parked, stack-popped}
 
 -- ---- the four lists put in another order
 module _ {n : ℕ} {b : List ℕ} {c : ℕ} {sh : Shape} {k : Park} where
@@ -254,52 +254,52 @@ module _ {n : ℕ} {b : List ℕ} {c : ℕ} {sh : Shape} (s : Setting n b c sh) 
       }
 
   -- a store's page: the step leaves every page's blocks alone
-  stow-off : (q : ℕ) {b′ : List ℕ} → Changes (isStow k c q) b b′ → Off n sh c q b b′
-  stow-off q h = record {
-    same = whole-kept (stow-owns k c q h) n sh c;
-    body = λ z d. stow-body k c q h z;
-    listing = λ z d. stow-listing k c q h z;
+  park-run-off : (q : ℕ) {b′ : List ℕ} → Changes (isParkRun k c q) b b′ → Off n sh c q b b′
+  park-run-off q h = record {
+    same = whole-kept (park-run-owns k c q h) n sh c;
+    body = λ z d. park-run-body k c q h z;
+    listing = λ z d. park-run-listing k c q h z;
   }
 
-  pub from-store : {p : Page} {ps xs ys fs : List Page} → ClassRep n b c sh k ps (p ∷ xs) ys fs → ClassRep n (unstow b c k (p .first)) c sh k ps xs ys (p ∷ fs)
+  pub from-store : {p : Page} {ps xs ys fs : List Page} → ClassRep n b c sh k ps (p ∷ xs) ys fs → ClassRep n (popStore b c k (p .first)) c sh k ps xs ys (p ∷ fs)
   from-store {p} {ps} {xs} {ys} {fs} r =
       let q = p .first in
-      let h = unstow-changes (isStow k c q) b c q (s .row) k (stow-lets k c q) in
-      let o = stow-off q h in
+      let h = pop-store-changes (isParkRun k c q) b c q (s .row) k (park-run-lets k c q) in
+      let o = park-run-off q h in
       let u = r .runs q in
       let f = digit-le (whole n b sh c q) in
       let i = itself q in
       let run = r .parked .0 .rep .holds .run in
       record {
-        chain = chain-kept (stow-partial k c q h (s .row)) (λ z m. stow-ties k c q h z (off q (firsts ps) (omega arith) z m)) (r .chain);
-        store = stack-unstowed n b (s .long) c q (s .row) (whole-in n b (s .shape) c q run) k (firsts xs) (r .store);
-        beside = stack-kept (stow-top k c q h (s .row)) (stow-stored k c q h (s .row)) (λ z m. stow-ties k c q h z (off q (firsts ys) (omega arith) z m) .fore) (r .beside);
+        chain = chain-kept (park-run-partial k c q h (s .row)) (λ z m. park-run-ties k c q h z (off q (firsts ps) (omega arith) z m)) (r .chain);
+        store = stack-popped n b (s .long) c q (s .row) (whole-in n b (s .shape) c q run) k (firsts xs) (r .store);
+        beside = stack-kept (park-run-top k c q h (s .row)) (park-run-stored k c q h (s .row)) (λ z m. park-run-ties k c q h z (off q (firsts ys) (omega arith) z m) .fore) (r .beside);
         partials = reps-off (s .shape) o 1 ps (omega arith) (r .partials);
         parked = parked-off (s .shape) o xs (omega arith) (r .parked .1);
         parkeds = parked-off (s .shape) o ys (omega arith) (r .parkeds);
         fulls = (
-          rep-kept (s .shape) (stow-body k c q h q) (stow-listing k c q h q) (o .same q ∙ run) (r .parked .0 .rep),
+          rep-kept (s .shape) (park-run-body k c q h q) (park-run-listing k c q h q) (o .same q ∙ run) (r .parked .0 .rep),
           reps-off (s .shape) o 0 fs (omega arith) (r .fulls),
         );
         runs = λ z. rw (o .same z) (omega (arith, r .runs z));
       }
 
   pub to-store : {p : Page} {ps xs ys fs : List Page} → Parked n sh b c p → length (firsts xs) < 256 → ClassRep n b c sh k ps xs ys (p ∷ fs)
-      → ClassRep n (stow b c k (p .first)) c sh k ps (p ∷ xs) ys fs
+      → ClassRep n (parkRun b c k (p .first)) c sh k ps (p ∷ xs) ys fs
   to-store {p} {ps} {xs} {ys} {fs} idle few r =
       let q = p .first in
-      let h = stow-changes (isStow k c q) b c q (s .row) k (stow-lets k c q) in
-      let o = stow-off q h in
+      let h = park-run-changes (isParkRun k c q) b c q (s .row) k (park-run-lets k c q) in
+      let o = park-run-off q h in
       let u = r .runs q in
       let f = digit-le (whole n b sh c q) in
       let i = itself q in
       let run = idle .rep .holds .run in
       record {
-        chain = chain-kept (stow-partial k c q h (s .row)) (λ z m. stow-ties k c q h z (off q (firsts ps) (omega arith) z m)) (r .chain);
-        store = stack-stowed n b (s .long) c q (s .row) (whole-in n b (s .shape) c q run) k (firsts xs) (not-in q (firsts xs) (omega arith)) few (r .store);
-        beside = stack-kept (stow-top k c q h (s .row)) (stow-stored k c q h (s .row)) (λ z m. stow-ties k c q h z (off q (firsts ys) (omega arith) z m) .fore) (r .beside);
+        chain = chain-kept (park-run-partial k c q h (s .row)) (λ z m. park-run-ties k c q h z (off q (firsts ps) (omega arith) z m)) (r .chain);
+        store = stack-parked n b (s .long) c q (s .row) (whole-in n b (s .shape) c q run) k (firsts xs) (not-in q (firsts xs) (omega arith)) few (r .store);
+        beside = stack-kept (park-run-top k c q h (s .row)) (park-run-stored k c q h (s .row)) (λ z m. park-run-ties k c q h z (off q (firsts ys) (omega arith) z m) .fore) (r .beside);
         partials = reps-off (s .shape) o 1 ps (omega arith) (r .partials);
-        parked = (parked-kept (s .shape) (stow-body k c q h q) (stow-listing k c q h q) (o .same q ∙ run) idle, parked-off (s .shape) o xs (omega arith) (r .parked));
+        parked = (parked-kept (s .shape) (park-run-body k c q h q) (park-run-listing k c q h q) (o .same q ∙ run) idle, parked-off (s .shape) o xs (omega arith) (r .parked));
         parkeds = parked-off (s .shape) o ys (omega arith) (r .parkeds);
         fulls = reps-off (s .shape) o 0 fs (omega arith) (r .fulls .1);
         runs = λ z. rw (o .same z) (omega (arith, r .runs z));
@@ -324,12 +324,12 @@ module _ {n : ℕ} {b : List ℕ} {c : ℕ} {sh : Shape} (s : Setting n b c sh) 
       link-changes (ofClass b c) b c q (s .row)
       (class-lets b c q (get b (class partial c)) 0 (mine q r (omega arith)) (each-head (s .shape) (OwnedBy b c) (whole-owner n b (s .shape) c) r) (λ z e. absurd (omega arith)))
 
-  pub unstow-only : {p : Page} {ps xs ys fs : List Page} → ClassRep n b c sh k ps (p ∷ xs) ys fs → Only c b (unstow b c k (p .first))
-  unstow-only {p} r =
+  pub pop-store-only : {p : Page} {ps xs ys fs : List Page} → ClassRep n b c sh k ps (p ∷ xs) ys fs → Only c b (popStore b c k (p .first))
+  pop-store-only {p} r =
       let i = itself (p .first) in
-      unstow-changes (ofClass b c) b c (p .first) (s .row) k (class-lets-stow b k c (p .first) (mine (p .first) r (omega arith)))
+      pop-store-changes (ofClass b c) b c (p .first) (s .row) k (class-lets-park-run b k c (p .first) (mine (p .first) r (omega arith)))
 
-  pub stow-only : {p : Page} {ps xs ys fs : List Page} → ClassRep n b c sh k ps xs ys (p ∷ fs) → Only c b (stow b c k (p .first))
-  stow-only {p} r =
+  pub park-run-only : {p : Page} {ps xs ys fs : List Page} → ClassRep n b c sh k ps xs ys (p ∷ fs) → Only c b (parkRun b c k (p .first))
+  park-run-only {p} r =
       let i = itself (p .first) in
-      stow-changes (ofClass b c) b c (p .first) (s .row) k (class-lets-stow b k c (p .first) (mine (p .first) r (omega arith)))
+      park-run-changes (ofClass b c) b c (p .first) (s .row) k (class-lets-park-run b k c (p .first) (mine (p .first) r (omega arith)))

@@ -14,7 +14,7 @@ use Rattle.fields.specs.Field.{Field, page, mark, slot, out, first, free, carve
 use Rattle.fields.proofs.Changes.{Changes}
 use Rattle.model.specs.Page.{carve}
 use Rattle.pages.specs.Runs.{whole}
-use Rattle.pages.specs.Stack.{marked}
+use Rattle.pages.specs.Stack.{outBit}
 use Rattle.pages.specs.Carve.{bareRun, newRun}
 use Rattle.pages.proofs.Frames.{changes-new}
 use Rattle.pages.proofs.NewRun as Runs
@@ -45,8 +45,8 @@ module _ {n : ℕ} {b : List ℕ} {c : ℕ} {sh : Shape} (s : Setting n b c sh) 
   new-names = Runs.new-names b sh (s .shape .few) q n (s .long)
 
   module _ (hq : ltb q n ≡ true) where
-    idle : (i : ℕ) → marked (bareRun b sh q) sh q i ≡ 0
-    unfolding marked
+    idle : (i : ℕ) → outBit (bareRun b sh q) sh q i ≡ 0
+    unfolding outBit
     idle i = by-cases (ltb i (sh .capacity)) (λ e. rw e (bare-outs b sh (s .shape .few) q n (s .long) hq i (ltb-true i (sh .capacity) e))) (λ e. rw e)
 
     pub new-rep : whole n (newRun b sh q) sh c q ≡ true → PageRep n sh (newRun b sh q) c 0 (carve sh q true)

@@ -20,7 +20,7 @@ use Rattle.rules.specs.Rules.{Rules, Fit}
 use Rattle.fields.specs.Field.{Field, arena, class, ClassField, partial, empty, emptyCount, cold, coldCount, emptyLimit, coldLimit, size, state, frontier, holes, holePages, commits, commitsHigh, reuses, reusesHigh, abandoned, abandonedHigh, held, classOff, region, off, word, part, read, get, put, same, ok, words}
 use Rattle.fields.proofs.Laws.{get-put-same, get-put-other, length-put}
 use Rattle.fields.proofs.Changes.{Changes, changes-none, changes-put}
-use Rattle.pages.specs.Fair.{limitsAt}
+use Rattle.pages.specs.Valid.{limitsAt}
 use Rattle.model.specs.Arena.{newArena}
 use Rattle.model.specs.Class.{newClass}
 use Rattle.model.specs.Heap.{newHeap}

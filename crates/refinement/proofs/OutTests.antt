@@ -25,7 +25,7 @@ use Rattle.pages.specs.Carve.{outWords}
 use Rattle.calls.specs.Out.{startOf, outIn, outAt, clean, unmarked, repeats, outFault}
 use Rattle.refinement.specs.way.Represents.{PageRep, Parked, heads, StateRep}
 use Rattle.refinement.proofs.Basics.{Setting}
-use Rattle.refinement.proofs.Found.{spot, all-spot, run-of, out-here, outs-here}
+use Rattle.refinement.proofs.Found.{destination, all-destination, run-of, out-here, outs-here}
 
 -- what the model's tests of numbers 15 and 10 leave
 pub once-here : (sh : Shape) (t : Class) (ws : List ℕ) → Model.repeats sh t ws ≡ false → every (outHere sh t) ws ≡ true → distinct ws ≡ true
@@ -47,9 +47,9 @@ module _ {n : ℕ} {b : List ℕ} {c : ℕ} {sh : Shape} (t : Class) (r : StateR
       let xs = map (reused sh) (t .empty) in
       let ys = map (thawed sh) (t .cold) in
       let on : (k : ℕ) (zs : List Page) → All (PageRep n sh b c k) zs → 1 ≤ heads q zs → get b (mark q j) ≡ 0
-      = λ k zs a h. let p = spot q zs h in subst (λ (x : ℕ). get b (mark x j) ≡ 0) (p .here) (all-spot (PageRep n sh b c k) p a .holds .unmarked j l) in
+      = λ k zs a h. let p = destination q zs h in subst (λ (x : ℕ). get b (mark x j) ≡ 0) (p .here) (all-destination (PageRep n sh b c k) p a .holds .unmarked j l) in
       let parked : (zs : List Page) → All (Parked n sh b c) zs → 1 ≤ heads q zs → get b (mark q j) ≡ 0
-      = λ zs a h. let p = spot q zs h in subst (λ (x : ℕ). get b (mark x j) ≡ 0) (p .here) (all-spot (Parked n sh b c) p a .rep .holds .unmarked j l) in
+      = λ zs a h. let p = destination q zs h in subst (λ (x : ℕ). get b (mark x j) ≡ 0) (p .here) (all-destination (Parked n sh b c) p a .rep .holds .unmarked j l) in
       one-of (heads q (t .partial)) (heads q xs) (heads q ys) (heads q (t .full)) (omega (arith, r .runs q))
       (on 1 (t .partial) (r .partials)) (parked xs (r .parked)) (parked ys (r .parkeds)) (on 0 (t .full) (r .fulls))
 

@@ -22,14 +22,14 @@ use Rattle.words.specs.Host.{digit}
 use Rattle.pages.specs.Stack.{latest, hasMore}
 use Rattle.pages.specs.declared.Park.{Park}
 use Rattle.pages.specs.Links.{top}
-use Rattle.pages.specs.Fair.{headerFair}
-use Rattle.calls.specs.Take.{pageReady, sound, walk, parkFair}
-use Rattle.pages.proofs.Downs.{digit-cases}
+use Rattle.pages.specs.Valid.{headerValid}
+use Rattle.calls.specs.Take.{pageReady, sound, walk, parkValid}
+use Rattle.pages.proofs.Descending.{digit-cases}
 use Rattle.refinement.specs.way.Chain.{Segment, Line, Stack}
 use Rattle.refinement.specs.way.Represents.{Holds, PageRep, Parked, firsts}
 use Rattle.refinement.proofs.Basics.{digit-small}
 use Rattle.refinement.proofs.Frames.{whole-below}
-use Rattle.refinement.proofs.Blocks.{few-counts, every-counts, tops-take}
+use Rattle.refinement.proofs.Blocks.{few-counts, every-counts, top-entries-take}
 use Rattle.refinement.proofs.Draw.{more-is}
 use Rattle.refinement.proofs.Fill.{AllMore, pred}
 
@@ -42,7 +42,7 @@ module _ {n : ℕ} {sh : Shape} {b : List ℕ} {c l q : ℕ} {xs : List ℕ} {k 
   stack-fits = few-counts xs k (λ i. omega (arith, h .outs i))
 
   pub page-sound : (m : ℕ) → hasMore b sh q ≡ true → sound n b c sh l m q ≡ true
-  unfolding sound pageReady headerFair
+  unfolding sound pageReady headerValid
   page-sound m g =
       rw (
         h .run,
@@ -51,7 +51,7 @@ module _ {n : ℕ} {sh : Shape} {b : List ℕ} {c l q : ℕ} {xs : List ℕ} {k 
         h .ready,
         h .clean,
         g,
-        tops-take b q m xs (h .slots),
+        top-entries-take b q m xs (h .slots),
         eq-eqb l l refl,
         le-leb (length xs + 0) k (omega (arith, stack-fits)),
         le-leb k (sh .capacity) (h .within),
@@ -97,8 +97,8 @@ module _ (n : ℕ) (b : List ℕ) {sh : Shape} (ok : Sound sh) (c : ℕ) where
   line-below h [] s a = le-leb h (get b (arena frontier)) (omega arith)
   line-below h (p ∷ ps) s a = le-leb h (get b (arena frontier)) (omega (arith, s .0, whole-below n b ok c (p .first) (a .0 .rep .holds .run)))
 
-  pub park-passes : (k : Park) (p : Page) (xs : List Page) → Stack b c k (firsts (p ∷ xs)) → All (Parked n sh b c) (p ∷ xs) → parkFair n b c sh k ≡ true
-  unfolding parkFair
+  pub park-passes : (k : Park) (p : Page) (xs : List Page) → Stack b c k (firsts (p ∷ xs)) → All (Parked n sh b c) (p ∷ xs) → parkValid n b c sh k ≡ true
+  unfolding parkValid
   park-passes k p xs s a =
       rw (
         line-below (get b (class (top k) c)) (p ∷ xs) (s .line) a,

@@ -18,16 +18,16 @@ use Rattle.fields.proofs.Laws.{get-put-same, get-put-other, length-put}
 use Rattle.fields.proofs.Changes.{Changes}
 use Rattle.model.specs.Page.{isMedium, carveAs, carve}
 use Rattle.pages.specs.Runs.{whole}
-use Rattle.pages.specs.Stack.{marked, downs, push}
+use Rattle.pages.specs.Stack.{outBit, descending, push}
 use Rattle.pages.specs.Carve.{stocked, carveAnew, outWords}
-use Rattle.pages.proofs.Downs.{digit-false, length-downs, small}
+use Rattle.pages.proofs.Descending.{digit-false, length-descending, small}
 use Rattle.pages.proofs.Pushes.{length-push, push-kept}
 use Rattle.pages.proofs.Frames.{changes-carve}
 use Rattle.refinement.specs.way.Represents.{Slots, Holds, PageRep}
 use Rattle.refinement.proofs.ArenaStore.{long-kept}
 use Rattle.refinement.proofs.Basics.{Setting}
 use Rattle.refinement.proofs.Frames.{isData, ofClass, Only, marked-kept}
-use Rattle.refinement.proofs.Blocks.{fits, in-row, words-downs, count-downs-zero, every-counts}
+use Rattle.refinement.proofs.Blocks.{fits, in-row, words-descending, count-descending-zero, every-counts}
 
 -- ---- a list laid on a stack whose top stands below t₀
 pub slots-under : (b b′ : List ℕ) (q : ℕ) (zs : List ℕ) → ((j : ℕ) → j < length zs → ltb j 4096 ≡ true → get b′ (slot q j) ≡ get b (slot q j)) → Slots b q zs → Slots b′ q zs
@@ -63,8 +63,8 @@ stocked-in sh = go (isMedium sh)
     go false = omega arith
 
 module _ {n : ℕ} {b : List ℕ} {c : ℕ} {sh : Shape} (s : Setting n b c sh) (q : ℕ) (u : Bool) where
-  room : 0 + length (downs 0 (stocked sh)) ≤ 4096
-  room = omega (arith, length-downs 0 (stocked sh), stocked-in sh, s .shape .few)
+  room : 0 + length (descending 0 (stocked sh)) ≤ 4096
+  room = omega (arith, length-descending 0 (stocked sh), stocked-in sh, s .shape .few)
 
   anew-changes : (t : Field → Bool) → t (page free q) ≡ true → t (page carved q) ≡ true → t (page virgin q) ≡ true → ((i : ℕ) → t (slot q i) ≡ true)
       → Changes t b (carveAnew b sh q u)
@@ -78,31 +78,31 @@ module _ {n : ℕ} {b : List ℕ} {c : ℕ} {sh : Shape} (s : Setting n b c sh) 
       let e : eqb (get b (page owner q)) (suc c) ≡ true = eq-eqb _ _ o in
       anew-changes (ofClass b c) e e e (λ i. e)
 
-  pub anew-marked : (j : ℕ) → marked (carveAnew b sh q u) sh q j ≡ marked b sh q j
+  pub anew-marked : (j : ℕ) → outBit (carveAnew b sh q u) sh q j ≡ outBit b sh q j
   unfolding carveAnew
   anew-marked j =
       marked-kept b (carveAnew b sh q u) sh q j
-      (λ e. let o = in-row s j e in simp get-put-other (push-kept b q 0 (downs 0 (stocked sh)) room (out q j) o refl))
+      (λ e. let o = in-row s j e in simp get-put-other (push-kept b q 0 (descending 0 (stocked sh)) room (out q j) o refl))
 
   -- the run's words, where no block is out, whatever they said of its blocks
-  pub anew-holds : {l : ℕ} → ltb q n ≡ true → whole n (carveAnew b sh q u) sh c q ≡ true → get b (page listed q) ≡ l → ((i : ℕ) → marked b sh q i ≡ 0) → ((j : ℕ) → j < outWords sh → get b (mark q j) ≡ 0)
-      → Holds n sh (carveAnew b sh q u) c l q (downs 0 (stocked sh)) (stocked sh) u
+  pub anew-holds : {l : ℕ} → ltb q n ≡ true → whole n (carveAnew b sh q u) sh c q ≡ true → get b (page listed q) ≡ l → ((i : ℕ) → outBit b sh q i ≡ 0) → ((j : ℕ) → j < outWords sh → get b (mark q j) ≡ 0)
+      → Holds n sh (carveAnew b sh q u) c l q (descending 0 (stocked sh)) (stocked sh) u
   unfolding carveAnew
   anew-holds hq run listing idle unmarked =
-      let b₁ = push b q 0 (downs 0 (stocked sh)) in
-      let hb₁ = long-kept n b (push b q 0 (downs 0 (stocked sh))) (length-push b q 0 (downs 0 (stocked sh))) (s .long) in
-      let low : every (fits sh) (downs 0 (stocked sh)) ≡ true
-      = every-counts (sh .capacity) (downs 0 (stocked sh)) (λ j z. omega (arith, count-downs-zero j (stocked sh), digit-false j (stocked sh) (omega (arith, stocked-in sh)))) in
+      let b₁ = push b q 0 (descending 0 (stocked sh)) in
+      let hb₁ = long-kept n b (push b q 0 (descending 0 (stocked sh))) (length-push b q 0 (descending 0 (stocked sh))) (s .long) in
+      let low : every (fits sh) (descending 0 (stocked sh)) ≡ true
+      = every-counts (sh .capacity) (descending 0 (stocked sh)) (λ j z. omega (arith, count-descending-zero j (stocked sh), digit-false j (stocked sh) (omega (arith, stocked-in sh)))) in
       record {
         run = run;
-        listing = simp get-put-other (push-kept b q 0 (downs 0 (stocked sh)) room (page listed q) refl refl ∙ listing);
-        height = simp (get-put-same n, length-put, hb₁) (sym (length-downs 0 (stocked sh)));
-        slots = slots-under b₁ _ q (downs 0 (stocked sh)) (λ j w o. simp get-put-other)
-            (subst (λ (xs : List ℕ). Slots b₁ q xs) (append-nil (downs 0 (stocked sh))) (push-slots s q hq [] (downs 0 (stocked sh)) 0 refl room low tt));
+        listing = simp get-put-other (push-kept b q 0 (descending 0 (stocked sh)) room (page listed q) refl refl ∙ listing);
+        height = simp (get-put-same n, length-put, hb₁) (sym (length-descending 0 (stocked sh)));
+        slots = slots-under b₁ _ q (descending 0 (stocked sh)) (λ j w o. simp get-put-other)
+            (subst (λ (xs : List ℕ). Slots b₁ q xs) (append-nil (descending 0 (stocked sh))) (push-slots s q hq [] (descending 0 (stocked sh)) 0 refl room low tt));
         ready = simp (get-put-other, get-put-same n, length-put, hb₁);
         clean = simp (get-put-other, get-put-same n, hb₁);
         within = stocked-in sh;
-        outs = λ j. omega (arith, anew-marked j, idle j, count-downs-zero j (stocked sh));
+        outs = λ j. omega (arith, anew-marked j, idle j, count-descending-zero j (stocked sh));
         unmarked = λ j w. anew-data .kept (mark q j) (lt-ltb j 128 (omega (arith, s .shape .few))) refl ∙ unmarked j w;
       }
 
@@ -116,10 +116,10 @@ module _ (sh : Shape) (q : ℕ) (u : Bool) where
       go true = refl
       go false = refl
 
-  pub carve-rep : {n : ℕ} {b : List ℕ} {c l : ℕ} → Holds n sh b c l q (downs 0 (stocked sh)) (stocked sh) u → PageRep n sh b c l (carve sh q u)
+  pub carve-rep : {n : ℕ} {b : List ℕ} {c l : ℕ} → Holds n sh b c l q (descending 0 (stocked sh)) (stocked sh) u → PageRep n sh b c l (carve sh q u)
   unfolding carveAs
   carve-rep {n} {b} {c} {l} h = go (isMedium sh) h
     where
-      go : (t : Bool) → Holds n sh b c l q (downs 0 (cond t (sh .capacity) 0)) (cond t (sh .capacity) 0) u → PageRep n sh b c l (carveAs sh t q u)
-      go true h = record { stack = downs 0 (sh .capacity); names = words-downs sh q 0 (sh .capacity); holds = h }
+      go : (t : Bool) → Holds n sh b c l q (descending 0 (cond t (sh .capacity) 0)) (cond t (sh .capacity) 0) u → PageRep n sh b c l (carveAs sh t q u)
+      go true h = record { stack = descending 0 (sh .capacity); names = words-descending sh q 0 (sh .capacity); holds = h }
       go false h = record { stack = []; names = refl; holds = h }

@@ -23,19 +23,19 @@ use Rattle.fields.proofs.Changes.{changes-none}
 use Rattle.model.specs.Page.{Page, isMedium, carveAs, carve, carvedWords, isOut, noneOut, reused, returned, retire}
 use Rattle.model.specs.Class.{Class, thawed}
 use Rattle.model.specs.Release as Model
-use Rattle.model.specs.Release.{Site, Settled, inPartial, inFull, spotIn, park, parkEmpty, letGo, settle}
-use Rattle.pages.specs.Stack.{marked, back, indexOf}
+use Rattle.model.specs.Release.{Site, Settled, inPartial, inFull, destinationIn, park, parkEmpty, letGo, settle}
+use Rattle.pages.specs.Stack.{outBit, back, indexOf}
 use Rattle.pages.specs.declared.Park.the-variants.{Empty, Cold}
-use Rattle.pages.specs.Links.{stow}
+use Rattle.pages.specs.Links.{parkRun}
 use Rattle.pages.specs.Carve.{carveAnew}
-use Rattle.model.specs.declared.Spot.the-variants.{ToCold}
-use Rattle.model.specs.Spot.{keepsEmpty, spotOf, arenaFate, fateOf}
-use Rattle.calls.specs.Release.{Released, released, unlisted, relisted, parkCold, parkAs, parkAt, giveBackAt, emptied, markRetired}
+use Rattle.model.specs.declared.Destination.the-variants.{ToCold}
+use Rattle.model.specs.Destination.{keepsEmpty, destinationOf, arenaFate, fateOf}
+use Rattle.calls.specs.Release.{Released, released, unlisted, relisted, parkCold, parkAs, parkAt, giveBackAt, emptied, setRetired}
 use Rattle.calls.specs.Chunks.{chunkBackAt}
 use Rattle.refinement.specs.way.Represents.{PageRep, firsts, ClassRep, RuleRep}
 use Rattle.refinement.proofs.Basics.{Setting, setting-kept}
 use Rattle.refinement.proofs.Frames.{ofClass, Only, only-trans, only-rule, data-owns, whole-kept, whole-in, whole-owner}
-use Rattle.refinement.proofs.Moves.{swap, at-full, to-store, stow-only}
+use Rattle.refinement.proofs.Moves.{swap, at-full, to-store, park-run-only}
 use Rattle.refinement.proofs.Pushes.{anew-data, anew-only, anew-marked, anew-holds, carve-first, carve-rep}
 use Rattle.refinement.proofs.Found.{Away, Placed, among, aside, placed-rep, placed-data, placed-out, out-only, placed-in, in-only}
 use Rattle.refinement.proofs.Returned.{none-is, none-idle, return-data, return-only, return-rep, blank, emptied-data, emptied-only, emptied-rep}
@@ -58,7 +58,7 @@ module _ {n : ℕ} {b : List ℕ} {c : ℕ} {sh : Shape} {zs : List Page} {given
   settled-from o (goes p e r k) = goes p e r (only-trans c o k)
 
 retired-settled : {n : ℕ} {b : List ℕ} {c : ℕ} {sh : Shape} {zs : List Page} {q : ℕ} {w : Released} {x : Settled} → SettledRep n b c sh zs 2 q w x
-    → SettledRep n b c sh zs 6 q (markRetired w) (Model.markRetired x)
+    → SettledRep n b c sh zs 6 q (setRetired w) (Model.setRetired x)
 retired-settled (stays {f = f} e r o) = stays (λ (z : 4 + f ≡ 6). e (omega arith)) r o
 retired-settled (goes p e r o) = goes p e r o
 
@@ -78,13 +78,13 @@ cold-stays sh = go (isMedium sh)
 
 -- ---- a page in no list that has no block out; m is the model's, which comes back as p
 module _ {n : ℕ} {b : List ℕ} {c : ℕ} {sh : Shape} (s : Setting n b c sh) (lim : Limits) (fit : Fit lim) (h : ℕ) (t : Class) (zs : List Page) (m p : Page)
-    (same : reused sh m ≡ p) (mf : m .first ≡ p .first) (idle : (i : ℕ) → marked b sh (p .first) i ≡ 0) (r : Away n b c sh t (p ∷ zs)) where
-  in-empty : length (t .empty) < 256 → SettledRep n b c sh zs 2 (p .first) (released (stow b c Empty (p .first)) 0) (parkEmpty sh t m)
+    (same : reused sh m ≡ p) (mf : m .first ≡ p .first) (idle : (i : ℕ) → outBit b sh (p .first) i ≡ 0) (r : Away n b c sh t (p ∷ zs)) where
+  in-empty : length (t .empty) < 256 → SettledRep n b c sh zs 2 (p .first) (released (parkRun b c Empty (p .first)) 0) (parkEmpty sh t m)
   in-empty few =
       stays not-given
-      (subst (λ z. ClassRep n (stow b c Empty (p .first)) c sh Empty (t .partial) (z ∷ map (reused sh) (t .empty)) (map (thawed sh) (t .cold)) (zs ++ t .full)) (sym same)
+      (subst (λ z. ClassRep n (parkRun b c Empty (p .first)) c sh Empty (t .partial) (z ∷ map (reused sh) (t .empty)) (map (thawed sh) (t .cold)) (zs ++ t .full)) (sym same)
       (to-store s (record { rep = r .fulls .0; idle = idle }) (omega (arith, length-firsts (reused sh) (t .empty))) r))
-      (stow-only s r)
+      (park-run-only s r)
 
   in-cold : length (t .cold) < 256 → SettledRep n b c sh zs 2 (p .first) (released (parkCold b c sh h (p .first)) (fateOf sh ToCold)) (Model.parkCold sh h t m)
   unfolding thawed
@@ -100,19 +100,19 @@ module _ {n : ℕ} {b : List ℕ} {c : ℕ} {sh : Shape} (s : Setting n b c sh) 
       let first : carve sh (p .first) (discardZeroed h && not (isMedium sh)) .first ≡ p .first = carve-first sh q u in
       let rep₁ = carve-rep sh q u (anew-holds s q u (whole-in n b (s .shape) c q run) (whole-kept (data-owns q ch) n sh c q ∙ run) (r .fulls .0 .holds .listing) idle (r .fulls .0 .holds .unmarked)) in
       let r₁ = at-full s p p₁ first ch r rep₁ in
-      let idle₁ : (i : ℕ) → marked (carveAnew b sh (p .first) (discardZeroed h && not (isMedium sh))) sh (carve sh (p .first) (discardZeroed h && not (isMedium sh)) .first) i ≡ 0
-      = λ i. ap (λ z. marked b₁ sh z i) first ∙ anew-marked s q u i ∙ idle i in
+      let idle₁ : (i : ℕ) → outBit (carveAnew b sh (p .first) (discardZeroed h && not (isMedium sh))) sh (carve sh (p .first) (discardZeroed h && not (isMedium sh)) .first) i ≡ 0
+      = λ i. ap (λ z. outBit b₁ sh z i) first ∙ anew-marked s q u i ∙ idle i in
       let r₂ = swap (to-store s₁ (record { rep = rep₁; idle = idle₁ }) (omega (arith, length-firsts (thawed sh) (t .cold))) (swap r₁)) in
-      let r₃ = subst (λ z. ClassRep n (stow b₁ c Cold z) c sh Empty (t .partial) (map (reused sh) (t .empty)) (p₁ ∷ map (thawed sh) (t .cold)) (zs ++ t .full)) first r₂ in
+      let r₃ = subst (λ z. ClassRep n (parkRun b₁ c Cold z) c sh Empty (t .partial) (map (reused sh) (t .empty)) (p₁ ∷ map (thawed sh) (t .cold)) (zs ++ t .full)) first r₂ in
       stays (cold-stays sh)
-      (subst (λ z. ClassRep n (stow b₁ c Cold q) c sh Empty (t .partial) (map (reused sh) (t .empty)) (carve sh z u ∷ map (thawed sh) (t .cold)) (zs ++ t .full)) (sym mf) r₃)
-      (only-trans c o₁ (subst (λ z. Only c b₁ (stow b₁ c Cold z)) first (stow-only s₁ (swap r₁))))
+      (subst (λ z. ClassRep n (parkRun b₁ c Cold q) c sh Empty (t .partial) (map (reused sh) (t .empty)) (carve sh z u ∷ map (thawed sh) (t .cold)) (zs ++ t .full)) (sym mf) r₃)
+      (only-trans c o₁ (subst (λ z. Only c b₁ (parkRun b₁ c Cold z)) first (park-run-only s₁ (swap r₁))))
 
   away : SettledRep n b c sh zs 2 (p .first) (released b 2) (letGo sh t m)
   away = subst (λ z. SettledRep n b c sh zs 2 (p .first) (released b 2) (record { class = t; fate = 2; gives = z ∷ [] })) (sym mf) (goes p refl r (changes-none (ofClass b c) b))
 
-  park-rep : SettledRep n b c sh zs 2 (p .first) (parkAs b c sh h (p .first) (spotIn sh lim t)) (park sh lim h t m)
-  unfolding spotOf park
+  park-rep : SettledRep n b c sh zs 2 (p .first) (parkAs b c sh h (p .first) (destinationIn sh lim t)) (park sh lim h t m)
+  unfolding destinationOf park
   park-rep =
       by-cases (keepsEmpty sh lim (length (t .empty)))
       (λ e. rw e (in-empty (omega (
@@ -191,7 +191,7 @@ module _ {n : ℕ} {b : List ℕ} {c : ℕ} {sh : Shape} {zs : List Page} (s : S
       unfolding reused retire carveAs
       retired-same = rw small
 
-      idle : (i : ℕ) → marked d sh (x .page .first) i ≡ 0
+      idle : (i : ℕ) → outBit d sh (x .page .first) i ≡ 0
       unfolding returned
       idle = none-idle s₁ hn back-rep e
 
@@ -203,7 +203,7 @@ module _ {n : ℕ} {b : List ℕ} {c : ℕ} {sh : Shape} {zs : List Page} (s : S
       unfolding returned
       placed-empty = placed-data s₁ (blank (x .page .first)) refl (emptied-data s₁ (back-rep .holds)) (emptied-rep s₁ (back-rep .holds) idle) placed-back
 
-      retired-back : SettledRep n d c sh zs 6 (x .page .first) (markRetired (parkAt (emptied d (x .page .first)) c sh h (x .page .first))) (Model.markRetired (park sh lim h (x .without) (retire (x .page))))
+      retired-back : SettledRep n d c sh zs 6 (x .page .first) (setRetired (parkAt (emptied d (x .page .first)) c sh h (x .page .first))) (Model.setRetired (park sh lim h (x .without) (retire (x .page))))
       unfolding returned retire noneOut carvedWords
       retired-back =
           settled-from (emptied-only s₁ (back-rep .holds))

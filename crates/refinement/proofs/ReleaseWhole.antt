@@ -29,7 +29,7 @@ use Rattle.model.specs.History.{heapAfter}
 use Rattle.model.proofs.Counts.{distinct-count}
 use Rattle.pages.specs.Stack.{indexOf}
 use Rattle.calls.specs.Out.{startOf, outAt, outFault}
-use Rattle.calls.specs.Release.{Released, releasedNone, lastStep, giveBackAt, releaseFair, releaseBlocks}
+use Rattle.calls.specs.Release.{Released, releasedNone, lastStep, giveBackAt, releaseValid, releaseBlocks}
 use Rattle.refinement.specs.way.Represents.{Represents}
 use Rattle.refinement.specs.Direct.{Agrees}
 use Rattle.refinement.specs.Releases.{listReply}
@@ -41,7 +41,7 @@ use Rattle.refinement.proofs.Found.{Located, located, located-passes, A
 use Rattle.refinement.proofs.OutTests.{once-here, fault-same}
 use Rattle.refinement.proofs.Returned.{return-room}
 use Rattle.refinement.proofs.Release.{SettledRep, stays, goes, settle-list}
-use Rattle.refinement.proofs.ReleaseFair.{release-fair}
+use Rattle.refinement.proofs.ReleaseValid.{release-valid}
 use Rattle.refinement.proofs.ReleaseGives.{all-given}
 
 module _ (n : ℕ) (hn : n ≤ maxPages) (b : List ℕ) (H : Heap) (R : Represents n b H) (ok : Reached n H) (c : ℕ) (hc : ltb c 76 ≡ true) (h : ℕ) where
@@ -58,7 +58,7 @@ module _ (n : ℕ) (hn : n ≤ maxPages) (b : List ℕ) (H : Heap) (R : Represen
   rest : ℕ → List ℕ → Released
   rest q ws =
       cond (not (every (λ w. eqb (startOf b w) q) ws)) (releasedNone b 11)
-      (cond (not (releaseFair n b c (shapeOf c) (length ws) q)) (releasedNone b 13)
+      (cond (not (releaseValid n b c (shapeOf c) (length ws) q)) (releasedNone b 13)
       (lastStep (shapeOf c) q (giveBackAt b c (shapeOf c) h q (map (indexOf (shapeOf c) q) ws))))
 
   at-page : (x : Site) → At n b c (shapeOf c) [] x → (q : ℕ) → q ≡ x .page .first → (ws : List ℕ) → distinct ws ≡ true
@@ -69,7 +69,7 @@ module _ (n : ℕ) (hn : n ≤ maxPages) (b : List ℕ) (H : Heap) (R : Represen
       by-cases (every (λ v. isOut (shapeOf c) v (x .page)) ws)
       (λ u. let few : (w : ℕ) → count w ws ≤ 1 = λ w. distinct-count w ws once in
       let room = return-room s hn (placed-rep (a .placed)) ws u few in
-      rw (e, sym same ∙ u, u, release-fair n b H R ok c s (length ws) (omega arith) (a .placed))
+      rw (e, sym same ∙ u, u, release-valid n b H R ok c s (length ws) (omega arith) (a .placed))
       (did (x .page .first) (settle-list s hn (R .rules c hc) h x (a .placed) ws u few)))
       (λ u. rw (e, sym same ∙ u, u) (denied 11 refl (λ z. omega arith)))
 
@@ -116,13 +116,13 @@ module _ (n : ℕ) (hn : n ≤ maxPages) (b : List ℕ) (H : Heap) (R : Represen
   unfolding interact offer finish
   list-agrees w x (denied k e ne) = record {
     answer = rw e;
-    fair = ne;
+    valid = ne;
     heap = represents-class n b H R ok b c (H .classes c) (changes-none (ofClass b c) b) (R .classes c hc);
   }
   list-agrees w x (did q (stays {b′ = b′} {s = t} {f = f} ne r o)) =
-      rw (ne-eqb f 2 ne) (record { answer = refl; fair = λ e. omega arith; heap = represents-class n b H R ok b′ c t o r })
+      rw (ne-eqb f 2 ne) (record { answer = refl; valid = λ e. omega arith; heap = represents-class n b H R ok b′ c t o r })
   list-agrees w x (did q (goes {b′ = b′} {s = t} p e r o)) =
-      record { answer = refl; fair = λ z. omega arith; heap = all-given n b H R ok c hc b′ o t (p ∷ []) r (q ∷ []) (ap (λ x. x ∷ []) e) }
+      record { answer = refl; valid = λ z. omega arith; heap = all-given n b H R ok c hc b′ o t (p ∷ []) r (q ∷ []) (ap (λ x. x ∷ []) e) }
 
   pub release-whole : (ws : List ℕ) → Agrees (Represents n) (listReply (releaseBlocks n b c (shapeOf c) h ws)) (classCall n H c (Calls.giveBack h ws))
   unfolding classCall answer

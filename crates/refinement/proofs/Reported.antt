@@ -16,7 +16,7 @@ use Rattle.model.specs.Page.{reused}
 use Rattle.model.specs.Class.{thawed}
 use Rattle.model.specs.Heap as Heaps
 use Rattle.model.specs.Heap.{Heap, parkedPages}
-use Rattle.arena.specs.Fair.{recordFair, countsFair, allCountsFair, reportFair}
+use Rattle.arena.specs.Valid.{recordValid, countsValid, allCountsValid, reportValid}
 use Rattle.arena.specs.Calls.{parkedRuns}
 use Rattle.refinement.specs.way.Represents.{StateRep}
 use Rattle.refinement.proofs.Release.{length-firsts}
@@ -37,14 +37,14 @@ module _ (n : ℕ) (b : List ℕ) (H : Heap) (cs : Classes n b H) where
     colds : get b (class coldCount c) ≡ length (H .classes c .cold)
     colds = cs c (lt-ltb c 76 l) .beside .number ∙ length-firsts (thawed (shapeOf c)) (H .classes c .cold)
 
-    class-passes : countsFair b c ≡ true
+    class-passes : countsValid b c ≡ true
     class-passes =
         let s = cs c (lt-ltb c 76 l) in
         rw (le-leb (get b (class emptyCount c)) maxParked (omega (arith, s .store .number, s .store .few)), le-leb (get b (class coldCount c)) maxParked (omega (arith, s .beside .number, s .beside .few)))
 
-  pub report-passes : recordFair n b ≡ true → reportFair n b ≡ true
-  unfolding reportFair allCountsFair
-  report-passes e = rw (e, every-of (countsFair b) classCount class-passes)
+  pub report-passes : recordValid n b ≡ true → reportValid n b ≡ true
+  unfolding reportValid allCountsValid
+  report-passes e = rw (e, every-of (countsValid b) classCount class-passes)
 
   pub parked-same : parkedPages (parkedRuns b) ≡ parkedPages (λ c. Heaps.parkedRuns (H .classes c))
   unfolding parkedPages

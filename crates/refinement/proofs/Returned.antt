@@ -23,9 +23,9 @@ use Rattle.model.proofs.Counts.{count-append, elem-count, every-count}
 use Rattle.model.proofs.Pages.{GoodPage}
 use Rattle.model.proofs.Used.{none-out-count}
 use Rattle.words.specs.Host.{digit}
-use Rattle.pages.specs.Stack.{marked, marks, push, pushed, back, indexOf}
-use Rattle.pages.proofs.Downs.{every-below}
-use Rattle.pages.proofs.Marks.{marks-changes, marks-at}
+use Rattle.pages.specs.Stack.{outBit, setOuts, push, pushed, back, indexOf}
+use Rattle.pages.proofs.Descending.{every-below}
+use Rattle.pages.proofs.SetOuts.{set-outs-changes, set-outs-at}
 use Rattle.pages.proofs.Frames.{back-free}
 use Rattle.pages.proofs.Pushes.{length-push, push-changes, push-kept}
 use Rattle.calls.specs.Release.{emptied}
@@ -40,7 +40,7 @@ use Rattle.refinement.proofs.Decode.{word-inj, count-words, words-elem,
 
 -- ---- the words
 module _ {n : ℕ} {b : List ℕ} {c : ℕ} {sh : Shape} (s : Setting n b c sh) {l q : ℕ} {xs : List ℕ} {k : ℕ} {v : Bool} (h : Holds n sh b c l q xs k v)
-    (is : List ℕ) (outs : (j : ℕ) → count j is ≤ marked b sh q j) where
+    (is : List ℕ) (outs : (j : ℕ) → count j is ≤ outBit b sh q j) where
   back-fit : every (fits sh) is ≡ true
   back-fit = every-counts (sh .capacity) is (λ j z. omega (arith, outs j, h .outs j, digit-false j k (omega (arith, h .within))))
 
@@ -52,11 +52,11 @@ module _ {n : ℕ} {b : List ℕ} {c : ℕ} {sh : Shape} (s : Setting n b c sh) 
   room = omega (arith, back-length, length-append is xs, h .height, h .within, s .shape .few)
 
   cleared : List ℕ
-  cleared = marks b q 0 is
+  cleared = setOuts b q 0 is
 
   cleared-changes : (t : Field → Bool) → ((i : ℕ) → t (out q i) ≡ true) → Changes t b cleared
   unfolding cleared
-  cleared-changes t o = marks-changes b q 0 t o is (every-below (sh .capacity) 4096 (s .shape .few) is back-fit)
+  cleared-changes t o = set-outs-changes b q 0 t o is (every-below (sh .capacity) 4096 (s .shape .few) is back-fit)
 
   s₁ : Setting n cleared c sh
   s₁ = setting-kept cleared (cleared-changes (λ g. true) (λ i. refl) .long) s
@@ -83,13 +83,13 @@ module _ {n : ℕ} {b : List ℕ} {c : ℕ} {sh : Shape} (s : Setting n b c sh) 
   hq : ltb q n ≡ true
   hq = whole-in n b (s .shape) c q (h .run)
 
-  back-marked : (j : ℕ) → _≡_ {A = ℕ} (marked (back b q is) sh q j) (cond (eqb (count j is) 0) (marked b sh q j) 0)
+  back-marked : (j : ℕ) → _≡_ {A = ℕ} (outBit (back b q is) sh q j) (cond (eqb (count j is) 0) (outBit b sh q j) 0)
   unfolding cleared
   back-marked j =
       marked-kept cleared (back b q is) sh q j (λ e. let o = in-row s j e in rw back-is (simp get-put-other (push-kept cleared q (get b (page free q)) is room (out q j) o refl)))
-      ∙ marks-at n b (s .long) q hq 0 refl sh (s .shape .few) is back-fit j
+      ∙ set-outs-at n b (s .long) q hq 0 refl sh (s .shape .few) is back-fit j
 
-  back-outs : (j : ℕ) → marked (back b q is) sh q j + count j (is ++ xs) ≡ digit (ltb j k)
+  back-outs : (j : ℕ) → outBit (back b q is) sh q j + count j (is ++ xs) ≡ digit (ltb j k)
   back-outs j =
       let o = h .outs j in
       let u = outs j in
@@ -152,24 +152,24 @@ module _ {n : ℕ} {b : List ℕ} {c : ℕ} {sh : Shape} (s : Setting n b c sh) 
   pub none-is : noneOut sh p ≡ eqb (get b (page carved (p .first))) (get b (page free (p .first)))
   none-is = none-count ∙ rw (free-length r, r .holds .height, r .holds .ready)
 
-  pub none-idle : noneOut sh p ≡ true → (i : ℕ) → marked b sh (p .first) i ≡ 0
+  pub none-idle : noneOut sh p ≡ true → (i : ℕ) → outBit b sh (p .first) i ≡ 0
   unfolding noneOut isOut
   none-idle e i =
-      by-cases (leb 1 (marked b sh (p .first) i))
+      by-cases (leb 1 (outBit b sh (p .first) i))
       (λ u. digit-cases i (p .carved)
       (λ v f. let t : Sits b sh (p .first) (wordOf sh (p .first) i) = record {
         index = i;
         inside = omega (arith, r .holds .within);
         names = refl;
-        set = omega (arith, r .holds .outs i, leb-true 1 (marked b sh (p .first) i) u);
+        set = omega (arith, r .holds .outs i, leb-true 1 (outBit b sh (p .first) i) u);
       } in
       let w = wordOf sh (p .first) i in
       let o = sits-out s hn r w t in
       let x = elem-count w (carvedWords sh p) (and-left (elem w (carvedWords sh p)) (not (elem w (p .free))) o) in
       absurd (true≢false (sym (every-count (λ z. elem z (p .free)) w (carvedWords sh p) e x)
       ∙ not-true (elem w (p .free)) (and-right (elem w (carvedWords sh p)) (not (elem w (p .free))) o))))
-      (λ v f. absurd (omega (arith, r .holds .outs i, leb-true 1 (marked b sh (p .first) i) u))))
-      (λ u. omega (arith, leb-false 1 (marked b sh (p .first) i) u))
+      (λ v f. absurd (omega (arith, r .holds .outs i, leb-true 1 (outBit b sh (p .first) i) u))))
+      (λ u. omega (arith, leb-false 1 (outBit b sh (p .first) i) u))
 
   -- ---- blocks that are out come back, each once
   module _ (ws : List ℕ) (outs : every (λ w. isOut sh w p) ws ≡ true) (once : (w : ℕ) → count w ws ≤ 1) where
@@ -184,14 +184,14 @@ module _ {n : ℕ} {b : List ℕ} {c : ℕ} {sh : Shape} (s : Setting n b c sh) 
         cons : {x y : ℕ} {xs ys : List ℕ} → x ≡ y → xs ≡ ys → x ∷ xs ≡ y ∷ ys
         cons e f = cc
 
-    set-once : (j : ℕ) → count j (map (indexOf sh (p .first)) ws) ≤ marked b sh (p .first) j
+    set-once : (j : ℕ) → count j (map (indexOf sh (p .first)) ws) ≤ outBit b sh (p .first) j
     set-once j =
         let w = wordOf sh (p .first) j in
         let e : count (wordOf sh (p .first) j) ws ≡ count j (map (indexOf sh (p .first)) ws)
         = ap (count (wordOf sh (p .first) j)) (spelled ws outs) ∙ count-words (s .shape) (p .first) j (map (indexOf sh (p .first)) ws) in
         by-cases (leb 1 (count (wordOf sh (p .first) j) ws))
         (λ u. let t = out-sits s hn r w (every-count (λ w. isOut sh w p) w ws outs (leb-true 1 (count w ws) u)) in
-        let m : marked b sh (p .first) j ≡ 1 = ap (marked b sh (p .first)) (word-inj (s .shape) (p .first) j (t .index) (t .names)) ∙ t .set in
+        let m : outBit b sh (p .first) j ≡ 1 = ap (outBit b sh (p .first)) (word-inj (s .shape) (p .first) j (t .index) (t .names)) ∙ t .set in
         omega (arith, once (wordOf sh (p .first) j)))
         (λ u. omega (arith, leb-false 1 (count (wordOf sh (p .first) j) ws) u))
 
@@ -241,8 +241,8 @@ module _ {n : ℕ} {b : List ℕ} {c : ℕ} {sh : Shape} (s : Setting n b c sh) 
       let o : eqb (get b (page owner q)) (suc c) ≡ true = eq-eqb _ _ (whole-owner n b (s .shape) c q (h .run)) in
       emptied-changes (ofClass b c) o o
 
-  module _ (idle : (i : ℕ) → marked b sh q i ≡ 0) where
-    pub emptied-idle : (i : ℕ) → marked (emptied b q) sh q i ≡ 0
+  module _ (idle : (i : ℕ) → outBit b sh q i ≡ 0) where
+    pub emptied-idle : (i : ℕ) → outBit (emptied b q) sh q i ≡ 0
     unfolding emptied
     emptied-idle i = marked-kept b (emptied b q) sh q i (λ e. let o = in-row s i e in simp get-put-other) ∙ idle i
 

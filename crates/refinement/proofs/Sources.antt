@@ -13,7 +13,7 @@ use Rattle.model.specs.Class as Model
 use Rattle.model.specs.Class.{lists, thawed}
 use Rattle.pages.specs.declared.Park.{Park}
 use Rattle.pages.specs.declared.Park.the-variants.{Empty, Cold}
-use Rattle.pages.specs.Links.{wake}
+use Rattle.pages.specs.Links.{unparkRun}
 use Rattle.calls.specs.Take.{took, fillFrom, fromPartial, fromPark, takeNew, takeBlocks}
 use Rattle.refinement.specs.way.Represents.{ClassRep, StateRep}
 use Rattle.refinement.proofs.Basics.{Setting}
@@ -23,7 +23,7 @@ use Rattle.refinement.proofs.Plan.{walk-passes, park-passes}
 
 module _ {n : ℕ} {b : List ℕ} {c : ℕ} {sh : Shape} (s : Setting n b c sh) (low : ltb n (get b (arena frontier)) ≡ false) (h : ℕ) (l : List ℕ) where
   from-park : (k : Park) (p : Page) (xs ys fs : List Page) → ClassRep n b c sh k [] (p ∷ xs) ys fs
-      → fromPark n b c sh k l ≡ took l (fillFrom (wake b c k (p .first)) c sh (sh .batch) (sh .batch))
+      → fromPark n b c sh k l ≡ took l (fillFrom (unparkRun b c k (p .first)) c sh (sh .batch) (sh .batch))
   unfolding fromPark
   from-park k p xs ys fs r = rw (park-passes n b (s .shape) c k p xs (r .store) (r .parked), r .store .line .0, pred (p .first))
 
@@ -39,7 +39,7 @@ module _ {n : ℕ} {b : List ℕ} {c : ℕ} {sh : Shape} (s : Setting n b c sh) 
       )
 
   pub take-empty : (e : Page) (es : List Page) (cs : List Model.Cold) (fs : List Page) → StateRep n b c sh (lists [] (e ∷ es) cs fs)
-      → takeBlocks n b c sh h l ≡ took l (fillFrom (wake b c Empty (reused sh e .first)) c sh (sh .batch) (sh .batch))
+      → takeBlocks n b c sh h l ≡ took l (fillFrom (unparkRun b c Empty (reused sh e .first)) c sh (sh .batch) (sh .batch))
   unfolding takeBlocks
   take-empty e es cs fs r =
       rw (
@@ -51,7 +51,7 @@ module _ {n : ℕ} {b : List ℕ} {c : ℕ} {sh : Shape} (s : Setting n b c sh) 
       )
 
   pub take-cold : (e : Model.Cold) (cs : List Model.Cold) (fs : List Page) → StateRep n b c sh (lists [] [] (e ∷ cs) fs)
-      → takeBlocks n b c sh h l ≡ took l (fillFrom (wake b c Cold (thawed sh e .first)) c sh (sh .batch) (sh .batch))
+      → takeBlocks n b c sh h l ≡ took l (fillFrom (unparkRun b c Cold (thawed sh e .first)) c sh (sh .batch) (sh .batch))
   unfolding takeBlocks
   take-cold e cs fs r =
       rw (

@@ -13,13 +13,13 @@ use Rattle.model.specs.Class as Model
 use Rattle.model.specs.Class.{lists, Result, Ask, done, asks, fillFromList, served, thawed, onRun, takeFrom}
 use Rattle.pages.specs.declared.Park.{Park}
 use Rattle.pages.specs.declared.Park.the-variants.{Empty, Cold}
-use Rattle.pages.specs.Links.{other, unstow, wake}
+use Rattle.pages.specs.Links.{other, popStore, unparkRun}
 use Rattle.calls.specs.Take.{Took, Filled, took, fillFrom, takeNew, takeBlocks}
 use Rattle.refinement.specs.way.Represents.{ClassRep, StateRep}
 use Rattle.refinement.proofs.Basics.{Setting, setting-kept}
 use Rattle.refinement.proofs.Sources.{take-partial, take-empty, take-cold, take-none}
 use Rattle.refinement.proofs.Frames.{Only, only-trans}
-use Rattle.refinement.proofs.Moves.{swap, from-store, to-partial, unstow-only, link-only}
+use Rattle.refinement.proofs.Moves.{swap, from-store, to-partial, pop-store-only, link-only}
 use Rattle.refinement.proofs.Fill.{AllMore, FillRep, fills}
 use Rattle.refinement.proofs.Plan.{parked-more}
 
@@ -44,17 +44,17 @@ module _ {n : ℕ} {b : List ℕ} {c : ℕ} {sh : Shape} (s : Setting n b c sh) 
   filled-rep es cs fs w f r = record { code = refl; answer = rw (r .blocks, r .virgin); gives = refl; rep = r .rep; only = r .only }
 
   -- the newest page of either store heads the partial list, and gives its blocks
-  wakes : (k : Park) (p : Page) (xs ys fs : List Page) → ClassRep n b c sh k [] (p ∷ xs) ys fs
-      → FillRep n b c sh k xs ys fs (fillFrom (wake b c k (p .first)) c sh (sh .batch) (sh .batch)) (fillFromList sh (sh .batch) (p ∷ []))
-  wakes k p xs ys fs r =
+  unparks : (k : Park) (p : Page) (xs ys fs : List Page) → ClassRep n b c sh k [] (p ∷ xs) ys fs
+      → FillRep n b c sh k xs ys fs (fillFrom (unparkRun b c k (p .first)) c sh (sh .batch) (sh .batch)) (fillFromList sh (sh .batch) (p ∷ []))
+  unparks k p xs ys fs r =
       let q = p .first in
-      let b₁ = unstow b c k q in
-      let o₁ = unstow-only s r in
+      let b₁ = popStore b c k q in
+      let o₁ = pop-store-only s r in
       let s₁ = setting-kept b₁ (o₁ .long) s in
       let r₁ = from-store s r in
       let o₂ = link-only s₁ r₁ in
       let r₂ = to-partial s₁ r₁ in
-      let s₂ = setting-kept (wake b c k q) (o₂ .long) s₁ in
+      let s₂ = setting-kept (unparkRun b c k q) (o₂ .long) s₁ in
       let f = fills s₂ (p ∷ []) fs (sh .batch) (sh .batch) (omega arith) (parked-more n b (s .shape) c p (r .parked .0), tt) r₂ in
       record { rep = f .rep; blocks = f .blocks; virgin = f .virgin; only = only-trans c (only-trans c o₁ o₂) (f .only) }
 
@@ -67,8 +67,8 @@ module _ {n : ℕ} {b : List ℕ} {c : ℕ} {sh : Shape} (s : Setting n b c sh) 
   take-own h (p ∷ ps) es cs fs low g r =
       rw (take-partial s low h l p ps es cs fs g r) (did (filled-rep es cs fs _ _ (fills s (p ∷ ps) fs (sh .batch) (sh .batch) (omega arith) g r)))
   take-own h [] (e ∷ es) cs fs low g r =
-      rw (take-empty s low h l e es cs fs r) (did (filled-rep es cs fs _ _ (wakes Empty (reused sh e) (map (reused sh) es) (map (thawed sh) cs) fs r)))
+      rw (take-empty s low h l e es cs fs r) (did (filled-rep es cs fs _ _ (unparks Empty (reused sh e) (map (reused sh) es) (map (thawed sh) cs) fs r)))
   take-own h [] [] (d ∷ cs) fs low g r =
       rw (take-cold s low h l d cs fs r)
-      (did (filled-rep [] cs fs _ _ (swapped Cold (map (thawed sh) cs) [] fs _ _ (wakes Cold (thawed sh d) (map (thawed sh) cs) [] fs (swap r)))))
+      (did (filled-rep [] cs fs _ _ (swapped Cold (map (thawed sh) cs) [] fs _ _ (unparks Cold (thawed sh d) (map (thawed sh) cs) [] fs (swap r)))))
   take-own h [] [] [] fs low g r = rw (take-none s low h l fs r) (asked fs r)

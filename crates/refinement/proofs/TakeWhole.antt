@@ -80,7 +80,7 @@ module _ (n : ℕ) (b : List ℕ) (H : Heap) (R : Represents n b H) (ok : Reache
     unfolding onRun Model.onRun finish
     none-agrees e = record {
       answer = refl;
-      fair = λ t. omega arith;
+      valid = λ t. omega arith;
       heap = record {
         arena = none-arena n b H R ok c hc h e (update (H .classes) c (lists [] [] [] fs));
         classes = classes-with n after H c (lists [] [] [] fs) (none-stays n b H R ok c hc h e c hc z) (λ d hd ne. none-stays n b H R ok c hc h e d hd (R .classes d hd));
@@ -126,7 +126,7 @@ module _ (n : ℕ) (b : List ℕ) (H : Heap) (R : Represents n b H) (ok : Reache
         let cs = update (H .classes) c s′ in
         record {
           answer = rw (f .blocks, f .virgin);
-          fair = λ t. omega arith;
+          valid = λ t. omega arith;
           heap = record {
             arena = arena-only n b₂ _ (heapOf (H .rules) (grant .arena) (passTo (class c) (covers (sh .pages) q) (H .holder)) cs) c (new-reached n b H R ok c hc h q e cs) only
                 (new-arena n b H R ok c hc h q e cs);
@@ -149,7 +149,7 @@ module _ (n : ℕ) (b : List ℕ) (H : Heap) (R : Represents n b H) (ok : Reache
   unfolding interact offer finish
   over h w x k = record {
     answer = rw (k .code) (sym (k .answer));
-    fair = λ e. omega (arith, k .code);
+    valid = λ e. omega (arith, k .code);
     heap = rw (k .gives) (represents-class n b H R ok (w .book) c (x .class) (k .only) (k .rep));
   }
 
@@ -157,7 +157,7 @@ module _ (n : ℕ) (b : List ℕ) (H : Heap) (R : Represents n b H) (ok : Reache
   unfolding interact offer finish
   turned h l k e ne = record {
     answer = rw e;
-    fair = ne;
+    valid = ne;
     heap = represents-class n b H R ok b c (H .classes c) (changes-none (ofClass b c) b) (R .classes c hc);
   }
 

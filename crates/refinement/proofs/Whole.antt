@@ -2,7 +2,7 @@
 --     call-whole         any call on a book that stands for a heap after a history
 --     run-answers        a history's answers are the model's, from an opening on any book that is long enough, with rules in their range
 --     run-represents     the book after it stands for the model's heap
---     run-fair           number 13 is never answered
+--     run-valid          number 13 is never answered
 use Prim.Native.Nat.{ℕ, _+_, _≤_}
 use native.Mathlib.Omega.{arith}
 use mathlib.Core.Bool.{true}
@@ -35,7 +35,7 @@ use Rattle.refinement.proofs.ArenaHolders.{small-class, medium-class}
 -- the calls ys on a book that stands for the heap H
 record RunRep (n : ℕ) (H : Heap) (b : List ℕ) (ys : List Call) : Type 0 where
   answers : answersIn (repliesFrom (callReply n) b ys) ≡ map (λ (e : Event). e .answer) (eventsFrom n H ys)
-  fair : All (λ (r : Reply). r .code ≡ 13 → ⊥) (repliesFrom (callReply n) b ys)
+  valid : All (λ (r : Reply). r .code ≡ 13 → ⊥) (repliesFrom (callReply n) b ys)
   heap : Represents n (bookFrom (callReply n) b ys) (heapFrom n H ys)
 
 module _ (n : ℕ) (hn : n ≤ maxPages) (rules : Rules) where
@@ -63,17 +63,17 @@ module _ (n : ℕ) (hn : n ≤ maxPages) (rules : Rules) where
 
     pub call-whole : (x : Call) → Agrees (Represents n) (callReply n b x) (step n (heapAfter n rules xs) x)
     unfolding callReply step wayOf
-    call-whole x = by-cases (badHost (hostIn x)) (λ e. rw e (record { answer = refl; fair = λ z. omega arith; heap = R })) (λ e. rw e (past-three x))
+    call-whole x = by-cases (badHost (hostIn x)) (λ e. rw e (record { answer = refl; valid = λ z. omega arith; heap = R })) (λ e. rw e (past-three x))
 
   -- ---- the calls ys after the history xs
   runs : (ys xs : List Call) (b : List ℕ) → Represents n b (heapAfter n rules xs) → RunRep n (heapAfter n rules xs) b ys
-  runs [] xs b R = record { answers = refl; fair = tt; heap = R }
+  runs [] xs b R = record { answers = refl; valid = tt; heap = R }
   runs (y ∷ ys) xs b R =
       let f = call-whole xs b R y in
       let e : heapAfter n rules (xs ++ y ∷ []) ≡ step n (heapAfter n rules xs) y .heap = heap-next n (newHeap rules) xs y in
       let b₁ = callReply n b y .book in
       let ih = subst (λ (H : Heap). RunRep n H (callReply n b y .book) ys) e (runs ys (xs ++ y ∷ []) b₁ (subst (λ (H : Heap). Represents n b₁ H) (sym e) (f .heap))) in
-      record { answers = cons (f .answer) (ih .answers); fair = (f .fair, ih .fair); heap = ih .heap }
+      record { answers = cons (f .answer) (ih .answers); valid = (f .valid, ih .valid); heap = ih .heap }
     where
       cons : {x y : Calls.Answer} {xs ys : List Calls.Answer} → x ≡ y → xs ≡ ys → x ∷ xs ≡ y ∷ ys
       cons e f = cc
@@ -89,5 +89,5 @@ module _ (n : ℕ) (hn : n ≤ maxPages) (rules : Rules) where
     pub run-represents : Represents n (bookFrom (callReply n) (opened n rules b) xs) (heapAfter n rules xs)
     run-represents = whole .heap
 
-    pub run-fair : All (λ (r : Reply). r .code ≡ 13 → ⊥) (repliesFrom (callReply n) (opened n rules b) xs)
-    run-fair = whole .fair
+    pub run-valid : All (λ (r : Reply). r .code ≡ 13 → ⊥) (repliesFrom (callReply n) (opened n rules b) xs)
+    run-valid = whole .valid

@@ -49,5 +49,5 @@ directReply n b Calls.report = reply (reportCode n b) (reported (figures n b)) b
 -- Stands b H: the book b stands for the heap H, wholly (Represents n) or in the arena's part (ArenaRep n)
 pub record Agrees (Stands : List ℕ → Heap → Type 0) (w : Reply) (o : Outcome) : Type 0 where
   pub answer : w .answer ≡ o .answer
-  pub fair : w .code ≡ 13 → ⊥
+  pub valid : w .code ≡ 13 → ⊥
   pub heap : Stands (w .book) (o .heap)

@@ -1,3 +1,3 @@
 pub mod Chain
 pub mod Represents
-pub mod Foot
+pub mod Footprint

@@ -13,25 +13,25 @@ use Rattle.classes.specs.way.Sound.{Sound}
 use Rattle.fields.specs.Field.{Field, arena, class, hole, page, region, off, frontier, partial, empty, emptyCount, cold, coldCount, next, prev, free, carved, listed, virgin, get, put, words, ok, emptyLimit, coldLimit}
 use Rattle.fields.proofs.Laws.{get-put-same, length-put}
 use Rattle.fields.proofs.Changes.{Changes}
-use Rattle.model.specs.declared.Spot.{Spot}
-use Rattle.model.specs.declared.Spot.the-variants.{ToEmpty, ToCold, ToArena}
-use Rattle.model.specs.Spot.{isArena}
-use Rattle.arena.specs.Fair.{giveFair}
+use Rattle.model.specs.declared.Destination.{Destination}
+use Rattle.model.specs.declared.Destination.the-variants.{ToEmpty, ToCold, ToArena}
+use Rattle.model.specs.Destination.{isArena}
+use Rattle.arena.specs.Valid.{giveValid}
 use Rattle.arena.proofs.Frames.{give-kept}
 use Rattle.arena.specs.Calls.{given}
-use Rattle.runs.specs.way.Asks.{GiveIn}
+use Rattle.runs.specs.way.Pre.{GiveIn}
 use Rattle.pages.specs.declared.Park.the-variants.{Empty, Cold}
-use Rattle.pages.specs.way.Asks.{LinkAsks, PushAsks}
-use Rattle.pages.specs.Links.{stow}
+use Rattle.pages.specs.way.Pre.{LinkPre, PushPre}
+use Rattle.pages.specs.Links.{parkRun}
 use Rattle.pages.specs.Stack.{push, pushed, indexOf}
 use Rattle.pages.specs.Carve.{carveAnew}
 use Rattle.pages.proofs.Pushes.{length-push}
-use Rattle.pages.proofs.Frames.{changes-stow, changes-pushed}
-use Rattle.calls.specs.Release.{pageFair, rowFair, relisted, released, unlisted, parkCold, parkedIn, spotAt, parkAt, spotFair, releaseFair, lastStep}
-use Rattle.pages.specs.Fair.{linksFair}
-use Rattle.release.specs.way.Act.{settleAt, coldVirgin, ParkingAsks, BackAsks, SettleAsks, Parked}
-use Rattle.release.proofs.Spots.{arena-alone}
-use Rattle.release.proofs.FairSteps.{page-room, page-carved, links-fair, head-low}
+use Rattle.pages.proofs.Frames.{changes-park-run, changes-pushed}
+use Rattle.calls.specs.Release.{pageValid, rowValid, relisted, released, unlisted, parkCold, parkedIn, destinationAt, parkAt, destinationValid, releaseValid, lastStep}
+use Rattle.pages.specs.Valid.{linksValid}
+use Rattle.release.specs.way.Act.{settleAt, coldVirgin, ParkingPre, BackPre, SettlePre, Parked}
+use Rattle.release.proofs.Destinations.{arena-alone}
+use Rattle.release.proofs.ValidSteps.{page-room, page-carved, links-valid, head-low}
 use Rattle.release.proofs.ParkSteps.{moves, unlisted-changes, relisted-changes, carve-changes}
 
 -- ---- the page with its blocks back: of the words that are tested, only FREE and VIRGIN are other ones
@@ -42,7 +42,7 @@ module _ (b : List ℕ) (q : ℕ) (is : List ℕ) (l : get b (page free q) + len
   pub push-changes : Changes onStack b (pushed b q is)
   push-changes = changes-pushed onStack b q refl refl (λ i. refl) is l
 
-  links-kept : linksFair (pushed b q is) q ≡ linksFair b q
+  links-kept : linksValid (pushed b q is) q ≡ linksValid b q
   links-kept =
       let k = push-changes .kept in
       rw (k (page listed q) refl refl, k (page next q) refl refl, k (page prev q) refl refl, k (arena frontier) refl refl)
@@ -55,29 +55,29 @@ module _ (b : List ℕ) (q : ℕ) (is : List ℕ) (l : get b (page free q) + len
       get-put-same (q + 1) (put b₁ (page virgin q) 0) (page free q) _ g (lt-ltb q (q + 1) (omega arith)) refl
 
   module _ (c : ℕ) (hc : c < 76) where
-    row-kept : rowFair (pushed b q is) c ≡ rowFair b c
-    unfolding rowFair
+    row-kept : rowValid (pushed b q is) c ≡ rowValid b c
+    unfolding rowValid
     row-kept =
         let k = push-changes .kept in
         let o = lt-ltb c 76 hc in
         rw (k (class partial c) o refl, k (class empty c) o refl, k (class emptyCount c) o refl, k (class cold c) o refl, k (class coldCount c) o refl, k (class emptyLimit c) o refl, k (class coldLimit c) o refl, k (arena frontier) refl refl)
 
-    spot-kept : (sh : Shape) → spotAt (pushed b q is) c sh ≡ spotAt b c sh
-    spot-kept sh =
+    destination-kept : (sh : Shape) → destinationAt (pushed b q is) c sh ≡ destinationAt b c sh
+    destination-kept sh =
         let k = push-changes .kept in
         let o = lt-ltb c 76 hc in
         rw (k (class emptyCount c) o refl, k (class coldCount c) o refl, k (class emptyLimit c) o refl, k (class coldLimit c) o refl)
 
 module _ (b : List ℕ) (c : ℕ) (sh : Shape) (h q : ℕ) (ws : List ℕ) where
-  slots-left : BackAsks b c sh q ws → get b (page free q) + length (map (indexOf sh q) ws) ≤ 4096
+  slots-left : BackPre b c sh q ws → get b (page free q) + length (map (indexOf sh q) ws) ≤ 4096
   slots-left a = rw (length-map ws (indexOf sh q)) (omega (arith, page-room b sh (length ws) q (a .page), page-carved b sh (length ws) q (a .page), a .sound .few))
 
-  pub push-asks : BackAsks b c sh q ws → PushAsks b sh q ws
-  push-asks a = record { sound = a .sound; below = a .below; there = a .there; slots = omega (arith, page-room b sh (length ws) q (a .page), page-carved b sh (length ws) q (a .page), a .sound .few); bits = a .bits }
+  pub push-pre : BackPre b c sh q ws → PushPre b sh q ws
+  push-pre a = record { sound = a .sound; below = a .below; there = a .there; slots = omega (arith, page-room b sh (length ws) q (a .page), page-carved b sh (length ws) q (a .page), a .sound .few); bits = a .bits }
 
   module _ (b′ : List ℕ) (e : b′ ≡ pushed b q (map (indexOf sh q) ws)) where
-    pub park-asks : BackAsks b c sh q ws → ParkingAsks b′ c sh q
-    park-asks a =
+    pub park-pre : BackPre b c sh q ws → ParkingPre b′ c sh q
+    park-pre a =
         let is = map (indexOf sh q) ws in
         let l = slots-left a in
         let k = push-changes b q is l in
@@ -87,12 +87,12 @@ module _ (b : List ℕ) (c : ℕ) (sh : Shape) (h q : ℕ) (ws : List ℕ) where
           below = a .below;
           there = omega (arith, k .long, a .there);
           low = rw (k .kept (arena frontier) refl refl) (omega (arith, k .long, a .low));
-          links = links-kept b q is l ∙ links-fair b sh (length ws) q (a .page);
+          links = links-kept b q is l ∙ links-valid b sh (length ws) q (a .page);
           row = row-kept b q is l c (a .known) ∙ a .row;
         })
 
-    pub link-asks : BackAsks b c sh q ws → LinkAsks b′ c q
-    link-asks a =
+    pub link-pre : BackPre b c sh q ws → LinkPre b′ c q
+    link-pre a =
         let k = push-changes b q (map (indexOf sh q) ws) (slots-left a) in
         rw e (record {
           known = a .known;
@@ -115,22 +115,22 @@ abbrev notArena : Field → Bool
 notArena f = not (eqb (region f) 0 || eqb (region f) 3)
 
 module _ (c : ℕ) (sh : Shape) (h q : ℕ) (hc : c < 76) (s : Sound sh) (g : Field) (o : ok g ≡ true) (u : notArena g ≡ false) (v : moves g ≡ false) (w : onStack g ≡ false) where
-  stow-kept : (b : List ℕ) → get (stow b c Empty q) g ≡ get b g
-  stow-kept b = changes-stow notArena b c q (lt-ltb c 76 hc) Empty refl refl refl .kept g o u
+  park-run-kept : (b : List ℕ) → get (parkRun b c Empty q) g ≡ get b g
+  park-run-kept b = changes-park-run notArena b c q (lt-ltb c 76 hc) Empty refl refl refl .kept g o u
 
   cold-kept : (b : List ℕ) → get (parkCold b c sh h q) g ≡ get b g
   cold-kept b =
-      changes-stow notArena (carveAnew b sh q (coldVirgin sh h)) c q (lt-ltb c 76 hc) Cold refl refl refl .kept g o u
+      changes-park-run notArena (carveAnew b sh q (coldVirgin sh h)) c q (lt-ltb c 76 hc) Cold refl refl refl .kept g o u
       ∙ carve-changes b c sh h q (coldVirgin sh h) s .kept g o v
 
-  in-kept : (b : List ℕ) (t : Spot) → get (parkedIn b c sh h q t) g ≡ get b g
-  in-kept b ToEmpty = stow-kept b
+  in-kept : (b : List ℕ) (t : Destination) → get (parkedIn b c sh h q t) g ≡ get b g
+  in-kept b ToEmpty = park-run-kept b
   in-kept b ToCold = cold-kept b
   in-kept b ToArena = refl
 
   park-kept : (b : List ℕ) → get (parkAt b c sh h q .book) g ≡ get b g
   unfolding parkAt
-  park-kept b = in-kept (unlisted b c q) (spotAt b c sh) ∙ unlisted-changes b c q hc .kept g o v
+  park-kept b = in-kept (unlisted b c q) (destinationAt b c sh) ∙ unlisted-changes b c q hc .kept g o v
 
   settle-kept : (b is : List ℕ) → get b (page free q) + length is ≤ 4096 → get (settleAt b c sh h q is .book) g ≡ get b g
   unfolding settleAt
@@ -141,68 +141,68 @@ module _ (c : ℕ) (sh : Shape) (h q : ℕ) (hc : c < 76) (s : Sound sh) (g : Fi
       by false = relisted-changes (pushed b q is) c q hc .kept g o v
 
 -- ---- a run whose fate is the arena is one that number 13 was tested for
-module _ (n : ℕ) (b : List ℕ) (c : ℕ) (sh : Shape) (q m : ℕ) (e : releaseFair n b c sh m q ≡ true) where
-  pub fair-low : get b (arena frontier) ≤ n
-  unfolding releaseFair
-  fair-low = leb-true (get b (arena frontier)) n (and-left _ _ e)
+module _ (n : ℕ) (b : List ℕ) (c : ℕ) (sh : Shape) (q m : ℕ) (e : releaseValid n b c sh m q ≡ true) where
+  pub valid-low : get b (arena frontier) ≤ n
+  unfolding releaseValid
+  valid-low = leb-true (get b (arena frontier)) n (and-left _ _ e)
 
-  fair-rest : (pageFair b sh m q && (rowFair b c && spotFair n b c sh m q)) ≡ true
-  unfolding releaseFair
-  fair-rest = and-right (leb (get b (arena frontier)) n) _ e
+  valid-rest : (pageValid b sh m q && (rowValid b c && destinationValid n b c sh m q)) ≡ true
+  unfolding releaseValid
+  valid-rest = and-right (leb (get b (arena frontier)) n) _ e
 
-  pub fair-page : pageFair b sh m q ≡ true
-  fair-page = and-left (pageFair b sh m q) _ fair-rest
+  pub valid-page : pageValid b sh m q ≡ true
+  valid-page = and-left (pageValid b sh m q) _ valid-rest
 
-  pub fair-row : rowFair b c ≡ true
-  fair-row = and-left (rowFair b c) _ (and-right (pageFair b sh m q) _ fair-rest)
+  pub valid-row : rowValid b c ≡ true
+  valid-row = and-left (rowValid b c) _ (and-right (pageValid b sh m q) _ valid-rest)
 
-  fair-spot : get b (page free q) + m ≡ get b (page carved q) → isArena (spotAt b c sh) ≡ true → giveFair n b (sh .pages) ≡ true
-  unfolding spotFair
-  fair-spot x y = rw (eq-eqb _ _ x, y) at (and-right (rowFair b c) _ (and-right (pageFair b sh m q) _ fair-rest))
+  valid-destination : get b (page free q) + m ≡ get b (page carved q) → isArena (destinationAt b c sh) ≡ true → giveValid n b (sh .pages) ≡ true
+  unfolding destinationValid
+  valid-destination x y = rw (eq-eqb _ _ x, y) at (and-right (rowValid b c) _ (and-right (pageValid b sh m q) _ valid-rest))
 
 module _ (n : ℕ) (b : List ℕ) (c : ℕ) (sh : Shape) (h q : ℕ) (ws : List ℕ) where
-  pub back-asks : SettleAsks n b c sh q ws → BackAsks b c sh q ws
-  back-asks a =
+  pub back-pre : SettlePre n b c sh q ws → BackPre b c sh q ws
+  back-pre a =
       let k = a .class in
-      let f = a .fair in
+      let f = a .valid in
       record {
         known = k .known;
         sound = k .sound;
         below = omega (arith, a .inside, k .few, k .sound .paged);
         there = omega (arith, a .inside, k .long, k .sound .paged);
-        low = omega (arith, k .long, fair-low n b c sh q (length ws) f);
-        page = fair-page n b c sh q (length ws) f;
-        row = fair-row n b c sh q (length ws) f;
+        low = omega (arith, k .long, valid-low n b c sh q (length ws) f);
+        page = valid-page n b c sh q (length ws) f;
+        row = valid-row n b c sh q (length ws) f;
         bits = a .bits;
         blocks = a .blocks;
       }
 
-  gives-fair : SettleAsks n b c sh q ws → settleAt b c sh h q (map (indexOf sh q) ws) .fate ≡ 2 → giveFair n b (sh .pages) ≡ true
+  gives-valid : SettlePre n b c sh q ws → settleAt b c sh h q (map (indexOf sh q) ws) .fate ≡ 2 → giveValid n b (sh .pages) ≡ true
   unfolding settleAt parkAt
-  gives-fair a e = by (pushed b q (map (indexOf sh q) ws)) refl _ refl e
+  gives-valid a e = by (pushed b q (map (indexOf sh q) ws)) refl _ refl e
     where
       by : (d : List ℕ) → d ≡ pushed b q (map (indexOf sh q) ws) → (t : Bool) → eqb (get d (page carved q)) (get d (page free q)) ≡ t
-          → cond t (parkAt d c sh h q) (released (relisted d c q) 0) .fate ≡ 2 → giveFair n b (sh .pages) ≡ true
+          → cond t (parkAt d c sh h q) (released (relisted d c q) 0) .fate ≡ 2 → giveValid n b (sh .pages) ≡ true
       by d z true x y =
           let is = map (indexOf sh q) ws in
-          let l = slots-left b c sh h q ws (back-asks a) in
-          let u : get d (page free q) ≡ get b (page free q) + length is = rw z (free-now b q is l (back-asks a .there)) in
+          let l = slots-left b c sh h q ws (back-pre a) in
+          let u : get d (page free q) ≡ get b (page free q) + length is = rw z (free-now b q is l (back-pre a .there)) in
           let v : get d (page carved q) ≡ get b (page carved q) = rw z (push-changes b q is l .kept (page carved q) refl refl) in
-          let s : spotAt d c sh ≡ spotAt b c sh = rw z (spot-kept b q is l c (a .class .known) sh) in
-          let g = arena-alone sh (spotAt d c sh) y in
-          fair-spot n b c sh q (length ws) (a .fair) (omega (arith, eqb-true (get d (page carved q)) (get d (page free q)) x, u, v, length-map ws (indexOf sh q))) (ap isArena (sym s) ∙ g)
+          let s : destinationAt d c sh ≡ destinationAt b c sh = rw z (destination-kept b q is l c (a .class .known) sh) in
+          let g = arena-alone sh (destinationAt d c sh) y in
+          valid-destination n b c sh q (length ws) (a .valid) (omega (arith, eqb-true (get d (page carved q)) (get d (page free q)) x, u, v, length-map ws (indexOf sh q))) (ap isArena (sym s) ∙ g)
       by d z false x y = absurd (omega (arith, y))
 
   module _ (r : ℕ) (b′ : List ℕ) (p : Parked r b′ (settleAt b c sh h q (map (indexOf sh q) ws))) where
-    pub give-asks : SettleAsks n b c sh q ws → r ≡ 2 → length b′ ≡ length b → GiveIn b′ n q (sh .pages)
-    give-asks a x k =
+    pub give-pre : SettlePre n b c sh q ws → r ≡ 2 → length b′ ≡ length b → GiveIn b′ n q (sh .pages)
+    give-pre a x k =
         let same : (g : Field) → ok g ≡ true → notArena g ≡ false → moves g ≡ false → onStack g ≡ false → get (settleAt b c sh h q (map (indexOf sh q) ws) .book) g ≡ get b g
-        = λ g o u v w. settle-kept c sh h q (a .class .known) (a .class .sound) g o u v w b (map (indexOf sh q) ws) (slots-left b c sh h q ws (back-asks a)) in
+        = λ g o u v w. settle-kept c sh h q (a .class .known) (a .class .sound) g o u v w b (map (indexOf sh q) ws) (slots-left b c sh h q ws (back-pre a)) in
         record {
           long = omega (arith, a .class .long);
           small = a .class .few;
           inside = a .inside;
-          fair = rw (p .left) (give-kept n b _ (λ j. same (arena j) refl refl refl refl) (λ f j o. same (hole f j) o refl refl refl) (sh .pages) ∙ gives-fair a (sym (p .fate) ∙ x));
+          valid = rw (p .left) (give-kept n b _ (λ j. same (arena j) refl refl refl refl) (λ f j o. same (hole f j) o refl refl refl) (sh .pages) ∙ gives-valid a (sym (p .fate) ∙ x));
         }
 
     pub given-away : (b″ : List ℕ) → r ≡ 2 → b″ ≡ given b′ q (sh .pages) → Parked r b″ (lastStep sh q (settleAt b c sh h q (map (indexOf sh q) ws)))

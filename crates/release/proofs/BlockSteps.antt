@@ -20,7 +20,7 @@ use Rattle.pages.specs.Stack.{blocksFrom, indexOf, isBlock}
 use Rattle.lists.proofs.InverseLaws.{behind-point, past-point, narrow, product-fits, divides, quotient-fits}
 use Rattle.release.specs.declared.Found.the-variants.{At, Nothing}
 use Rattle.release.specs.way.Blocks.{found, blockAt, blockIn}
-use Rattle.release.specs.way.MarkAsks.{Near}
+use Rattle.release.specs.way.MarkPre.{Near}
 use Rattle.release.proofs.Bits.{from-block, at-block, below-capacity}
 
 -- x granules behind the run's first block

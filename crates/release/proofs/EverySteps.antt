@@ -14,7 +14,7 @@ use Rattle.facts.proofs.Lists.{drop-past, every-get}
 use Rattle.fields.specs.Field.{page, first, get, words, Has}
 use Rattle.pages.specs.Stack.{pageAt}
 use Rattle.calls.specs.Out.{startOf}
-use Rattle.release.specs.way.Asks.{StartAsks}
+use Rattle.release.specs.way.Pre.{StartPre}
 
 pub record EveryInv (t : ℕ → Bool) (ws : List ℕ) (i : ℕ) : Type 0 where
   pub within : i ≤ length ws
@@ -46,5 +46,5 @@ module _ (n : ℕ) (b : List ℕ) (q w p : ℕ) (l : ltb (pageAt w) n ≡ true) 
   unfolding startOf
   start-told x k = ap (λ y. eqb y q) (k ∙ ap (λ y. get b (page first y)) e)
 
-pub page-below : (n : ℕ) (b ws : List ℕ) (i : ℕ) → StartAsks n b ws → i < length ws → ltb (pageAt (getD ws i 0)) n ≡ true
+pub page-below : (n : ℕ) (b ws : List ℕ) (i : ℕ) → StartPre n b ws → i < length ws → ltb (pageAt (getD ws i 0)) n ≡ true
 page-below n b ws i a l = every-get (λ w. ltb (pageAt w) n) ws i (a .pages) l

@@ -1,8 +1,8 @@
 pub mod Bits
 pub mod BlockSteps
 pub mod RunSteps
-pub mod Spots
-pub mod FairSteps
+pub mod Destinations
+pub mod ValidSteps
 pub mod OutLaws
 pub mod RunLaws
 pub mod MarkLaws

@@ -18,9 +18,9 @@ use borrow.Author.Tests.{eq-eqb, ne-eqb, eqb-true}
 use Rattle.facts.proofs.Bools.{and-left, and-right}
 use Rattle.fields.specs.Field.{bits, mark, read, place, get, put}
 use Rattle.fields.proofs.Parts.{below, above, read-le, read-small, read-place-other}
-use Rattle.fields.specs.way.Mark.{outWord, outsAt}
+use Rattle.fields.specs.way.OutBits.{outWord, outsAt}
 use Rattle.release.specs.way.Marks.{setMark, freshAt, freshBits, setBits}
-use Rattle.release.specs.way.MarkAsks.{MarkedBits, MarkedBlock}
+use Rattle.release.specs.way.MarkPre.{MarkedBits, MarkedBlock}
 
 -- ---- the mask
 module _ (s n m : ℕ) (e : m ≡ place (bits s n) 0 (2 ^ n - 1)) where

@@ -117,8 +117,8 @@ module _ (n c : ℕ) (sh : Shape) (s : Sound sh) where
     mark-low : indexOf sh (startOf b w) w / 32 < 128
     mark-low = omega (arith, index-of-out n c sh s b w o)
 
-    mark-valid : (ltb (indexOf sh (startOf b w) w / 32) 128 && ltb (startOf b w) n) ≡ true
-    mark-valid = rw (lt-ltb _ _ mark-low, lt-ltb _ _ (start-of-out n c sh s b w o))
+    mark-in-book : (ltb (indexOf sh (startOf b w) w / 32) 128 && ltb (startOf b w) n) ≡ true
+    mark-in-book = rw (lt-ltb _ _ mark-low, lt-ltb _ _ (start-of-out n c sh s b w o))
 
     pub mark-changes : (v : ℕ) → Changes isMarkWord b (put b (markOf b sh w) v)
     mark-changes v = put-mark b (startOf b w) (indexOf sh (startOf b w) w / 32) v mark-low
@@ -130,7 +130,7 @@ module _ (n c : ℕ) (sh : Shape) (s : Sound sh) where
   -- ---- another word's mark, once that one's is set
   module _ (b : List ℕ) (hb : leb (words n) (length b) ≡ true) (w : ℕ) (o : outAt n b c sh w ≡ true) where
     now-there : (v : ℕ) → get (put b (markOf b sh w) v) (markOf b sh w) ≡ v
-    now-there v = get-put-same n b (markOf b sh w) v hb (mark-valid b w o) refl
+    now-there v = get-put-same n b (markOf b sh w) v hb (mark-in-book b w o) refl
 
     module _ (v : ℕ) (u : outAt n b c sh v ≡ true) (k : kindOf v ≡ kindOf w) where
       one-place : startOf b w ≡ startOf b v → indexOf sh (startOf b w) w / 32 ≡ indexOf sh (startOf b v) v / 32
@@ -251,7 +251,7 @@ module _ (n c : ℕ) (sh : Shape) (s : Sound sh) where
 
   marked-cleared : (b : List ℕ) → leb (words n) (length b) ≡ true → (w : ℕ) → outAt n b c sh w ≡ true → put (marked b sh w) (markOf b sh w) 0 ≡ put b (markOf b sh w) 0
   unfolding markedIn
-  marked-cleared b hb w o = put-put-same n b (markOf b sh w) _ 0 hb (mark-valid b w o)
+  marked-cleared b hb w o = put-put-same n b (markOf b sh w) _ 0 hb (mark-in-book b w o)
 
   -- what was set in words that are cleared leaves nothing
   clears-marks : (b : List ℕ) (ws : List ℕ) → leb (words n) (length b) ≡ true

@@ -21,7 +21,7 @@ use Rattle.release.specs.declared.Found.{Found}
 use Rattle.release.specs.declared.Found.the-variants.{At, Nothing}
 use Rattle.release.specs.way.Blocks.{blockIn}
 use Rattle.release.specs.way.Marks.{setMark, freshAt, markedIn, freshIn, freshCount, freshBook, countBy, bookBy}
-use Rattle.release.specs.way.MarkAsks.{MarkedBlock, MarkedOne, MarkedIn, MarkedTo, Reaches, Alone}
+use Rattle.release.specs.way.MarkPre.{MarkedBlock, MarkedOne, MarkedIn, MarkedTo, Reaches, Alone}
 use Rattle.release.proofs.Bits.{below-capacity}
 use Rattle.release.proofs.BlockSteps.{none-found, found-at}
 use Rattle.facts.proofs.Lists.{drop-past}

@@ -11,10 +11,10 @@ use lib.ListN.{length}
 use Rattle.fields.specs.Field.{mark, get, put, Has}
 use Rattle.fields.specs.Clear.{clearMarks}
 use Rattle.release.specs.way.Marks.{noMarks, takeWord, takeMarks}
-use Rattle.pages.specs.way.Asks.{ClearAsks}
+use Rattle.pages.specs.way.Pre.{ClearPre}
 use Rattle.release.proofs.RunSteps.{or-none}
 
-pub word-there : (b b′ : List ℕ) (q m j : ℕ) → ClearAsks b q m → length b′ ≡ length b → j < m → Has b′ (mark q j)
+pub word-there : (b b′ : List ℕ) (q m j : ℕ) → ClearPre b q m → length b′ ≡ length b → j < m → Has b′ (mark q j)
 word-there b b′ q m j a e l = omega (arith, a .few, a .there)
 
 -- ---- reading

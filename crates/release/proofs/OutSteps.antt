@@ -21,10 +21,10 @@ use Rattle.release.specs.declared.Found.{Found}
 use Rattle.release.specs.declared.Found.the-variants.{At, Nothing}
 use Rattle.release.specs.declared.Out.{Out}
 use Rattle.release.specs.declared.Out.the-variants.{Block, Nowhere}
-use Rattle.release.specs.way.Asks.{ClassAsks}
+use Rattle.release.specs.way.Pre.{ClassPre}
 use Rattle.release.specs.way.Blocks.{blockAt, runAt, outAs, findOut}
 use Rattle.release.specs.way.Marks.{isMarkedIn, markedIn, isMarked, marked, markCount, markBook, clearBook, cleanAt}
-use Rattle.release.specs.way.MarkAsks.{MarkedBlock, MarkedList}
+use Rattle.release.specs.way.MarkPre.{MarkedBlock, MarkedList}
 use Rattle.release.proofs.Bits.{out-in, below-capacity}
 use Rattle.release.proofs.BlockSteps.{none-found, found-at}
 use Rattle.release.proofs.RunSteps.{run-there}
@@ -41,7 +41,7 @@ module _ (n : ℕ) (b : List ℕ) (c : ℕ) (sh : Shape) (w : ℕ) (f : Found) (
     run-is : (inRunOf n b sh c w ≡ true) × (q ≡ startOf b w)
     run-is = found-at (inRunOf n b sh c w) (startOf b w) q (sym h ∙ e)
 
-    pub run-low : ClassAsks n b c sh → q < maxPages
+    pub run-low : ClassPre n b c sh → q < maxPages
     run-low a = run-there n b c sh w f e q h (a .sound) (a .few) (a .long) .below
 
     module _ (g : Found) (k : g ≡ blockAt sh q w) where
@@ -53,7 +53,7 @@ module _ (n : ℕ) (b : List ℕ) (c : ℕ) (sh : Shape) (w : ℕ) (f : Found) (
         block-is : (isBlock sh q w ≡ true) × (i ≡ indexOf sh q w)
         block-is = found-at (isBlock sh q w) (indexOf sh q w) i (sym y ∙ k)
 
-        pub find-bit : ClassAsks n b c sh → Has b (out q i)
+        pub find-bit : ClassPre n b c sh → Has b (out q i)
         find-bit a =
             let l = run-there n b c sh w f e q h (a .sound) (a .few) (a .long) .there in
             omega (arith, l, below-capacity sh q w (block-is .0), block-is .1, a .sound .few)
@@ -89,10 +89,10 @@ module _ (n : ℕ) (b : List ℕ) (c : ℕ) (sh : Shape) (w : ℕ) (f : Out) (e 
         by true o z = record { out = o; start = cc; index = cc }
         by false o z = let z : _≡_ {A = ℕ} 0 1 = cc in absurd (omega arith)
 
-    pub mark-has : ClassAsks n b c sh → Has b (mark q (i / 32))
+    pub mark-has : ClassPre n b c sh → Has b (mark q (i / 32))
     mark-has a = omega (arith, is-out .start, is-out .index, index-of-out n c sh (a .sound) b w (is-out .out), start-of-out n c sh (a .sound) b w (is-out .out), a .long)
 
-    pub mark-has-now : (b₀ : List ℕ) → ClassAsks n b₀ c sh → length b ≡ length b₀ → Has b (mark q (i / 32))
+    pub mark-has-now : (b₀ : List ℕ) → ClassPre n b₀ c sh → length b ≡ length b₀ → Has b (mark q (i / 32))
     mark-has-now b₀ a k = mark-has (record { known = a .known; sound = a .sound; few = a .few; long = omega (arith, a .long) })
 
     out-bit : eqb (get b (out q i)) 1 ≡ true

@@ -14,18 +14,18 @@ use Rattle.classes.specs.way.Sound.{Sound}
 use Rattle.fields.specs.Field.{Field, arena, class, page, region, off, frontier, emptyCount, coldCount, next, prev, listed, get}
 use Rattle.fields.specs.Ranges.{maxParked}
 use Rattle.fields.proofs.Changes.{Changes, changes-none}
-use Rattle.model.specs.declared.Spot.{Spot}
-use Rattle.model.specs.declared.Spot.the-variants.{ToEmpty, ToCold, ToArena}
-use Rattle.model.specs.Spot.{fateOf}
+use Rattle.model.specs.declared.Destination.{Destination}
+use Rattle.model.specs.declared.Destination.the-variants.{ToEmpty, ToCold, ToArena}
+use Rattle.model.specs.Destination.{fateOf}
 use Rattle.pages.specs.declared.Park.{Park}
 use Rattle.pages.specs.declared.Park.the-variants.{Empty, Cold}
-use Rattle.pages.specs.way.Asks.{UnlinkAsks, ParkAsks}
-use Rattle.pages.specs.Links.{link, unlink, stow, stored}
+use Rattle.pages.specs.way.Pre.{UnlinkPre, ParkPre}
+use Rattle.pages.specs.Links.{link, unlink, parkRun, stored}
 use Rattle.pages.specs.Carve.{carveAnew}
 use Rattle.pages.proofs.Frames.{changes-link, changes-unlink, changes-carve}
-use Rattle.calls.specs.Release.{unlisted, relisted, parkCold, parkedIn, spotAt, parkAt}
-use Rattle.release.specs.way.Act.{coldVirgin, ParkingAsks, ColdAsks, StoreAsks, Parked}
-use Rattle.release.proofs.FairSteps.{count-low}
+use Rattle.calls.specs.Release.{unlisted, relisted, parkCold, parkedIn, destinationAt, parkAt}
+use Rattle.release.specs.way.Act.{coldVirgin, ParkingPre, ColdPre, StorePre, Parked}
+use Rattle.release.proofs.ValidSteps.{count-low}
 
 abbrev pub moves : Field → Bool
 moves f = leb 4 (region f) || (eqb (region f) 2 && eqb (off f) 0)
@@ -49,7 +49,7 @@ module _ (b : List ℕ) (c q : ℕ) where
     unfolding relisted
     in-list h = rw (← e, ne-eqb x 0 h)
 
-    pub links-there : (sh : Shape) → ParkingAsks b c sh q → x ≡ 1 → UnlinkAsks b c q
+    pub links-there : (sh : Shape) → ParkingPre b c sh q → x ≡ 1 → UnlinkPre b c q
     links-there sh a h =
         let z = rw (← e, eq-eqb x 1 h) at (a .links) in
         let n = leb-true (get b (page next q)) (get b (arena frontier)) (and-left _ _ z) in
@@ -91,7 +91,7 @@ module _ (b : List ℕ) (c : ℕ) (sh : Shape) (h q : ℕ) where
   carve-changes v s = changes-carve moves b q refl refl (λ i. refl) sh v refl (s .few)
 
   module _ (b′ : List ℕ) (v : Bool) (e : b′ ≡ carveAnew b sh q v) where
-    pub cold-there : ColdAsks b c sh q → ParkAsks b′ c Cold q
+    pub cold-there : ColdPre b c sh q → ParkPre b′ c Cold q
     cold-there a =
         let k = carve-changes v (a .sound) in
         record {
@@ -101,11 +101,11 @@ module _ (b : List ℕ) (c : ℕ) (sh : Shape) (h q : ℕ) where
           few = rw e (rw (k .kept (class coldCount c) (lt-ltb c 76 (a .known)) refl) (a .few));
         }
 
-    pub parked-cold : (b″ : List ℕ) → v ≡ coldVirgin sh h → b″ ≡ stow b′ c Cold q → b″ ≡ parkCold b c sh h q
+    pub parked-cold : (b″ : List ℕ) → v ≡ coldVirgin sh h → b″ ≡ parkRun b′ c Cold q → b″ ≡ parkCold b c sh h q
     parked-cold b″ x k = k ∙ rw (e, x)
 
--- ---- by the spot
-module _ (sh : Shape) (s : Spot) where
+-- ---- by the destination
+module _ (sh : Shape) (s : Destination) where
   pub fate-empty : s ≡ ToEmpty → 0 ≡ fateOf sh s
   fate-empty e = rw e
 
@@ -116,15 +116,15 @@ module _ (sh : Shape) (s : Spot) where
   fate-arena e = rw e
 
 module _ (b : List ℕ) (c : ℕ) (sh : Shape) (h q : ℕ) where
-  module _ (a : StoreAsks b c sh q) where
-    pub empty-there : ParkAsks b c Empty q
+  module _ (a : StorePre b c sh q) where
+    pub empty-there : ParkPre b c Empty q
     empty-there = record { known = a .known; below = a .below; there = a .there; few = a .few Empty }
 
-    pub cold-asks : ColdAsks b c sh q
-    cold-asks = record { known = a .known; sound = a .sound; below = a .below; there = a .there; few = a .few Cold }
+    pub cold-pre : ColdPre b c sh q
+    cold-pre = record { known = a .known; sound = a .sound; below = a .below; there = a .there; few = a .few Cold }
 
-  module _ (s : Spot) where
-    pub goes-empty : (b′ : List ℕ) → s ≡ ToEmpty → b′ ≡ stow b c Empty q → b′ ≡ parkedIn b c sh h q s
+  module _ (s : Destination) where
+    pub goes-empty : (b′ : List ℕ) → s ≡ ToEmpty → b′ ≡ parkRun b c Empty q → b′ ≡ parkedIn b c sh h q s
     goes-empty b′ e k = rw e k
 
     pub goes-cold : (b′ : List ℕ) → s ≡ ToCold → b′ ≡ parkCold b c sh h q → b′ ≡ parkedIn b c sh h q s
@@ -134,12 +134,12 @@ module _ (b : List ℕ) (c : ℕ) (sh : Shape) (h q : ℕ) where
     goes-on e = rw e
 
 module _ (b : List ℕ) (c : ℕ) (sh : Shape) (q : ℕ) where
-  count-kept : ParkingAsks b c sh q → (p : Park) → get (unlisted b c q) (class (stored p) c) ≤ maxParked
+  count-kept : ParkingPre b c sh q → (p : Park) → get (unlisted b c q) (class (stored p) c) ≤ maxParked
   count-kept a Empty = rw (unlisted-changes b c q (a .known) .kept (class emptyCount c) (lt-ltb c 76 (a .known)) refl) (count-low b c Empty (a .row))
   count-kept a Cold = rw (unlisted-changes b c q (a .known) .kept (class coldCount c) (lt-ltb c 76 (a .known)) refl) (count-low b c Cold (a .row))
 
-  pub store-asks : ParkingAsks b c sh q → (s : Spot) → s ≡ spotAt b c sh → (b′ : List ℕ) → b′ ≡ unlisted b c q → StoreAsks b′ c sh q
-  store-asks a s e b′ k =
+  pub store-pre : ParkingPre b c sh q → (s : Destination) → s ≡ destinationAt b c sh → (b′ : List ℕ) → b′ ≡ unlisted b c q → StorePre b′ c sh q
+  store-pre a s e b′ k =
       rw k (record {
         known = a .known;
         sound = a .sound;
@@ -148,6 +148,6 @@ module _ (b : List ℕ) (c : ℕ) (sh : Shape) (q : ℕ) where
         few = count-kept a;
       })
 
-  pub parked-at : (h : ℕ) (s : Spot) → s ≡ spotAt b c sh → (b′ : List ℕ) → b′ ≡ unlisted b c q → (b″ : List ℕ) → b″ ≡ parkedIn b′ c sh h q s → (r : ℕ) → r ≡ fateOf sh s → Parked r b″ (parkAt b c sh h q)
+  pub parked-at : (h : ℕ) (s : Destination) → s ≡ destinationAt b c sh → (b′ : List ℕ) → b′ ≡ unlisted b c q → (b″ : List ℕ) → b″ ≡ parkedIn b′ c sh h q s → (r : ℕ) → r ≡ fateOf sh s → Parked r b″ (parkAt b c sh h q)
   unfolding parkAt
   parked-at h s e b′ k b″ l r j = rw (← e) (record { fate = j; left = l ∙ rw k })

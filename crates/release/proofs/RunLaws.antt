@@ -20,7 +20,7 @@ use Rattle.fields.specs.Field.{arena, page, out, frontier, owner, first, get, p
 use Rattle.fields.proofs.Laws.{put-comm}
 use Rattle.fields.proofs.Changes.{same-eq}
 use Rattle.pages.specs.Runs.{ofRun, whole}
-use Rattle.pages.specs.Stack.{marks, indexOf, pageAt, isBlock}
+use Rattle.pages.specs.Stack.{setOuts, indexOf, pageAt, isBlock}
 use Rattle.calls.specs.Out.{startOf, outIn, inRunOf, outAt}
 use Rattle.release.proofs.Bits.{out-in, from-block, at-block, below-capacity}
 
@@ -32,10 +32,10 @@ bits-comm b q i j v hi hj = by (same (out q i) (out q j)) refl
     by true e = rw (same-eq (out q i) (out q j) e)
     by false e = put-comm b (out q i) (out q j) v v (lt-ltb i 4096 hi) (lt-ltb j 4096 hj) e
 
-pub low-marks : (b : List ℕ) (q v i : ℕ) (is : List ℕ) → i < 4096 → every (λ j. ltb j 4096) is ≡ true → marks (put b (out q i) v) q v is ≡ put (marks b q v is) (out q i) v
+pub low-marks : (b : List ℕ) (q v i : ℕ) (is : List ℕ) → i < 4096 → every (λ j. ltb j 4096) is ≡ true → setOuts (put b (out q i) v) q v is ≡ put (setOuts b q v is) (out q i) v
 low-marks b q v i [] h l = refl
 low-marks b q v i (j ∷ js) h l =
-    rw (low-marks b q v i js h (and-right (ltb j 4096) _ l)) (bits-comm (marks b q v js) q i j v h (ltb-true j 4096 (and-left _ _ l)))
+    rw (low-marks b q v i js h (and-right (ltb j 4096) _ l)) (bits-comm (setOuts b q v js) q i j v h (ltb-true j 4096 (and-left _ _ l)))
 
 module _ (n c : ℕ) (sh : Shape) (s : Sound sh) (q : ℕ) where
   -- ---- the run's pages hold its blocks

@@ -24,9 +24,9 @@ use Rattle.fields.proofs.Parts.{read-small}
 use Rattle.facts.specs.Lists.{every}
 use Rattle.model.specs.Release.{ofKind}
 use Rattle.pages.specs.Runs.{whole}
-use Rattle.pages.specs.Stack.{marks, indexOf, isBlock}
+use Rattle.pages.specs.Stack.{setOuts, indexOf, isBlock}
 use Rattle.calls.specs.Out.{startOf, outIn, outAt, outs, clean, unmarked, repeats}
-use Rattle.fields.specs.way.Mark.{outWord}
+use Rattle.fields.specs.way.OutBits.{outWord}
 use Rattle.release.specs.way.Marks.{markAt, freshAt, isMarkedIn, markedIn, markCount, freshIn, freshCount, freshBook, noMarks, takeWord, takeMarks, countBy, bookBy}
 use Rattle.facts.proofs.Lists.{every-same, every-made}
 use Rattle.release.proofs.Bits.{out-in, below-capacity, whole-kept, start-kept}
@@ -159,25 +159,25 @@ module _ (sh : Shape) (s : Sound sh) (q : ℕ) where
     take-fresh b w o long = takes-marked q m b (indexOf sh q w) (fresh-low b w o) few (fresh-word b w o m all) (omega arith) (fresh-out b w o) (fresh-mark b w o)
 
     takes-fresh : (b : List ℕ) (ws : List ℕ) → words (q + 1) ≤ length b → freshCount b sh q ws ≡ length ws
-        → takeMarks (freshBook b sh q ws) q m ≡ marks (takeMarks b q m) q 0 (map (indexOf sh q) ws)
+        → takeMarks (freshBook b sh q ws) q m ≡ setOuts (takeMarks b q m) q 0 (map (indexOf sh q) ws)
     unfolding countBy bookBy
     takes-fresh b [] long l = refl
     takes-fresh b (w ∷ ws) long l =
         by (freshIn b sh q w) refl (takes-fresh (markedIn b sh q w) ws (rw (marked-long b w) long)) (lows (markedIn b sh q w) ws)
       where
         by : (t : Bool) → freshIn b sh q w ≡ t
-            → (freshCount (markedIn b sh q w) sh q ws ≡ length ws → takeMarks (freshBook (markedIn b sh q w) sh q ws) q m ≡ marks (takeMarks (markedIn b sh q w) q m) q 0 (map (indexOf sh q) ws))
+            → (freshCount (markedIn b sh q w) sh q ws ≡ length ws → takeMarks (freshBook (markedIn b sh q w) sh q ws) q m ≡ setOuts (takeMarks (markedIn b sh q w) q m) q 0 (map (indexOf sh q) ws))
             → (freshCount (markedIn b sh q w) sh q ws ≡ length ws → every (λ j. ltb j 4096) (map (indexOf sh q) ws) ≡ true)
-            → takeMarks (freshBook b sh q (w ∷ ws)) q m ≡ marks (takeMarks b q m) q 0 (map (indexOf sh q) (w ∷ ws))
+            → takeMarks (freshBook b sh q (w ∷ ws)) q m ≡ setOuts (takeMarks b q m) q 0 (map (indexOf sh q) (w ∷ ws))
         by true o z y =
             let k : freshCount (markedIn b sh q w) sh q ws ≡ length ws = omega (arith, rw o at l) in
             let is = map (indexOf sh q) ws in
-            rw o (z k ∙ ap (λ d. marks d q 0 is) (take-fresh b w o long) ∙ low-marks (takeMarks b q m) q 0 (indexOf sh q w) is (fresh-low b w o) (y k))
+            rw o (z k ∙ ap (λ d. setOuts d q 0 is) (take-fresh b w o long) ∙ low-marks (takeMarks b q m) q 0 (indexOf sh q w) is (fresh-low b w o) (y k))
         by false o z y = absurd (omega (arith, rw o at l))
 
     pub takes-all : (b : List ℕ) (ws : List ℕ) → words (q + 1) ≤ length b → noMarks b q m ≡ true → freshCount b sh q ws ≡ length ws
-        → takeMarks (freshBook b sh q ws) q m ≡ marks b q 0 (map (indexOf sh q) ws)
-    takes-all b ws long e l = takes-fresh b ws long l ∙ ap (λ d. marks d q 0 (map (indexOf sh q) ws)) (none-taken b q m e)
+        → takeMarks (freshBook b sh q ws) q m ≡ setOuts b q 0 (map (indexOf sh q) ws)
+    takes-all b ws long e l = takes-fresh b ws long l ∙ ap (λ d. setOuts d q 0 (map (indexOf sh q) ws)) (none-taken b q m e)
 
   pub fresh-is-out : (b : List ℕ) (w : ℕ) → freshIn b sh q w ≡ true → outIn b sh q w ≡ true
   fresh-is-out b w o = out-in b sh q w ∙ rw (fresh-block b w o, fresh-out b w o)

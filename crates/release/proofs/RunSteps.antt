@@ -26,7 +26,7 @@ use Rattle.calls.specs.Out.{startOf, inRunOf}
 use Rattle.release.specs.declared.Found.{Found}
 use Rattle.release.specs.declared.Found.the-variants.{At, Nothing}
 use Rattle.release.specs.way.Blocks.{runAt}
-use Rattle.release.specs.way.Asks.{InAsks}
+use Rattle.release.specs.way.Pre.{InPre}
 use Rattle.release.proofs.BlockSteps.{found-at}
 
 module _ (n : ℕ) (b : List ℕ) (c : ℕ) (sh : Shape) (w p : ℕ) (e : p ≡ pageAt w) where
@@ -79,7 +79,7 @@ module _ (n : ℕ) (b : List ℕ) (c : ℕ) (sh : Shape) where
         let z = found-at (inRunOf n b sh c w) (startOf b w) q (sym h ∙ e) in
         rw (z .1) (run-whole w (z .0))
 
-    pub run-there : (q : ℕ) → f ≡ At q → Sound sh → n ≤ maxPages → words n ≤ length b → InAsks b sh q
+    pub run-there : (q : ℕ) → f ≡ At q → Sound sh → n ≤ maxPages → words n ≤ length b → InPre b sh q
     run-there q h s few long =
         let z = below-arena q (run-found q h) in
         record { sound = s; below = omega (arith, s .paged); there = omega (arith, s .paged) }

@@ -24,7 +24,7 @@ use Rattle.release.specs.declared.Found.{Found}
 use Rattle.release.specs.declared.Found.the-variants.{At}
 use Rattle.release.specs.way.Blocks.{blockIn}
 use Rattle.release.specs.way.Marks.{setMark, freshAt, markedIn, freshIn, freshCount, freshBook, freshBits, setBits, countBy, bookBy}
-use Rattle.release.specs.way.MarkAsks.{Near, MarkedBits, Stretched, Reaches, Alone}
+use Rattle.release.specs.way.MarkPre.{Near, MarkedBits, Stretched, Reaches, Alone}
 use Rattle.release.proofs.Bits.{from-block, at-block, below-capacity}
 use Rattle.release.proofs.BlockSteps.{found-at, outside}
 use Rattle.release.proofs.MarkBits.{fresh-at, set-at, from-top, from-low}

@@ -14,7 +14,7 @@ use lib.ListN.{length, getD, set, length-set}
 use lib.Pow.{pow-pos, split, high, low}
 use lib.Seq.{getD-set-same, getD-set-other, set-set, set-comm}
 use Rattle.fields.specs.Field.{bits, place, out, mark, get, put}
-use Rattle.fields.specs.way.Mark.{outWord}
+use Rattle.fields.specs.way.OutBits.{outWord}
 use Rattle.release.specs.way.Marks.{markAt, setMark, takeWord, takeMarks}
 
 -- ---- one word

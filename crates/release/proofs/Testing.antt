@@ -12,9 +12,9 @@ use Rattle.fields.specs.Field.{words}
 use Rattle.facts.specs.Lists.{every}
 use Rattle.calls.specs.Out.{outAt, unmarked, repeats, outFault}
 use Rattle.calls.proofs.Out.{fault-marked, fault-repeats, fault-foreign}
-use Rattle.release.specs.way.Asks.{ClassAsks}
+use Rattle.release.specs.way.Pre.{ClassPre}
 use Rattle.release.specs.way.Marks.{isMarked, marked, markCount, clearBook}
-use Rattle.release.specs.way.MarkAsks.{MarkedList, FaultAsks, TestAsks, Tested, Faulted}
+use Rattle.release.specs.way.MarkPre.{MarkedList, FaultPre, TestPre, Tested, Faulted}
 use Rattle.release.proofs.MarkLaws.{book-changes, repeats-found, marks-clear}
 
 pub fault-none : (n : ℕ) (b : List ℕ) (c : ℕ) (sh : Shape) (ws : List ℕ) → unmarked n b c sh ws ≡ true → repeats n b c sh ws ≡ false → every (outAt n b c sh) ws ≡ true → outFault n b c sh ws ≡ 0
@@ -32,8 +32,8 @@ within n b c sh (w ∷ ws) = by (outAt n b c sh w) (isMarked b sh w) (within n b
     by true true x y = omega arith
     by true false x y = omega arith
 
-module _ (n : ℕ) (b : List ℕ) (c : ℕ) (sh : Shape) (ws : List ℕ) (a : TestAsks n b c sh ws) (k : ℕ) (b′ : List ℕ) (r : MarkedList k b′ n b c sh ws) where
-  pub class-marked : ClassAsks n b′ c sh
+module _ (n : ℕ) (b : List ℕ) (c : ℕ) (sh : Shape) (ws : List ℕ) (a : TestPre n b c sh ws) (k : ℕ) (b′ : List ℕ) (r : MarkedList k b′ n b c sh ws) where
+  pub class-marked : ClassPre n b′ c sh
   class-marked =
       let e : length b′ ≡ length b = ap length (r .left) ∙ book-changes n c sh (a .class .sound) b ws .long in
       record { known = a .class .known; sound = a .class .sound; few = a .class .few; long = omega (arith, a .class .long) }
@@ -62,13 +62,13 @@ module _ (n : ℕ) (b : List ℕ) (c : ℕ) (sh : Shape) (ws : List ℕ) (a : Te
     some-twice h = record { answer = sym (flip _ _ told ∙ rw (ne-eqb k (length ws) h)); left = back }
 
 -- ---- the numbers in their order
-module _ (n : ℕ) (b : List ℕ) (c : ℕ) (sh : Shape) (ws : List ℕ) (a : FaultAsks n b c sh ws) (t : Bool) (e : t ≡ unmarked n b c sh ws) where
+module _ (n : ℕ) (b : List ℕ) (c : ℕ) (sh : Shape) (ws : List ℕ) (a : FaultPre n b c sh ws) (t : Bool) (e : t ≡ unmarked n b c sh ws) where
   pub some-marked : t ≡ false → Faulted 13 b n b c sh ws
   some-marked x = record { answer = sym (fault-marked n b c sh ws (sym e ∙ x)); left = refl }
 
   module _ (x : t ≡ true) where
-    pub test-asks : TestAsks n b c sh ws
-    test-asks = record { class = a .class; kinds = a .kinds; clean = sym e ∙ x }
+    pub test-pre : TestPre n b c sh ws
+    test-pre = record { class = a .class; kinds = a .kinds; clean = sym e ∙ x }
 
     module _ (r : Bool) (b′ : List ℕ) (f : Tested r b′ n b c sh ws) where
       pub repeated : r ≡ true → Faulted 15 b′ n b c sh ws

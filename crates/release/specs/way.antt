@@ -1,7 +1,7 @@
 pub mod Blocks
-pub mod Asks
-pub mod Fair
+pub mod Pre
+pub mod Valid
 pub mod Marks
-pub mod MarkAsks
+pub mod MarkPre
 pub mod Act
 pub mod One

@@ -5,8 +5,8 @@ ghost use Rattle.classes.specs.way.Sound.{Sound};
 ghost use Rattle.fields.specs.Ranges.{maxPages};
 ghost use Rattle.words.specs.Word.{granuleOf, wordBits};
 ghost use Rattle.release.specs.way.Blocks.{blockAt, blockIn, runAt, findOut};
-ghost use Rattle.release.specs.way.Asks.{ClassAsks};
-ghost use Rattle.release.specs.way.MarkAsks.{Near};
+ghost use Rattle.release.specs.way.Pre.{ClassPre};
+ghost use Rattle.release.specs.way.MarkPre.{Near};
 use super::Found;
 use super::Out;
 use classes::Shape;
@@ -65,7 +65,7 @@ pub fn block_in(shape: Shape, q: u32, base: u64, span: u32, w: u64) -> Found
 
 // The first page of the class's run that has the word's granule.
 pub fn run_of(meta: &[u32], n: u32, c: u32, shape: Shape, w: u64) -> Found
-    requires { ⌜ ClassAsks n (now meta) c shape ⌝ }
+    requires { ⌜ ClassPre n (now meta) c shape ⌝ }
     ensures { λ r. ⌜ r ≡ runAt n (now (meta .entry)) shape c w ⌝ }
 {
     let page = page_at(w);
@@ -92,7 +92,7 @@ pub fn run_of(meta: &[u32], n: u32, c: u32, shape: Shape, w: u64) -> Found
 
 // The block that a word is, if it is out in the class.
 pub fn find_out(meta: &[u32], n: u32, c: u32, shape: Shape, w: u64) -> Out
-    requires { ⌜ ClassAsks n (now meta) c shape ⌝ }
+    requires { ⌜ ClassPre n (now meta) c shape ⌝ }
     ensures { λ r. ⌜ r ≡ findOut n (now (meta .entry)) c shape w ⌝ }
 {
     let run = run_of(meta, n, c, shape, w);

@@ -1,18 +1,14 @@
 // Releases by list: the tests in their order, each over the whole list, and then the act.
 mod blocks;
-mod fair;
 mod kinds;
 mod marks;
 mod one;
 mod park;
 mod release;
 mod tests;
+mod valid;
 
 pub use blocks::find_out;
-pub use fair::limits_at;
-pub use fair::page_fair;
-pub use fair::row_fair;
-pub use fair::spot_of;
 pub use kinds::all_of_kind;
 pub use marks::clear_marks;
 pub use marks::mark_run;
@@ -24,6 +20,10 @@ pub use park::relist;
 pub use release::release_blocks;
 pub use release::release_list;
 pub use tests::out_fault;
+pub use valid::destination_of;
+pub use valid::limits_at;
+pub use valid::page_valid;
+pub use valid::row_valid;
 
 // What a release answers: a refusal's number, or the page's fate.
 pub enum Released {
@@ -33,7 +33,7 @@ pub enum Released {
 
 // What the tests before 13's last come to: a refusal's number; or the run that has all listed blocks, and in how many words of its marks
 // they are marked, 0 for none.
-pub enum Ready {
+pub enum Verdict {
     No(u32),
     In(u32, u32),
 }

@@ -7,9 +7,9 @@ ghost use Rattle.classes.specs.way.Sound.{Sound};
 ghost use Rattle.fields.specs.Field.{mark, Has};
 ghost use Rattle.fields.specs.Clear.{clearMarks};
 ghost use Rattle.pages.specs.Carve.{outWords};
-ghost use Rattle.pages.specs.way.Asks.{ClearAsks};
+ghost use Rattle.pages.specs.way.Pre.{ClearPre};
 ghost use Rattle.release.specs.way.Marks.{noMarks, takeWord, takeMarks};
-ghost use Rattle.release.specs.way.MarkAsks.{FieldAsks, Near, MarkedBits, MarkedBlock, MarkedOne, MarkedIn, MarkedTo, Stretched, Reaches, Alone};
+ghost use Rattle.release.specs.way.MarkPre.{FieldPre, Near, MarkedBits, MarkedBlock, MarkedOne, MarkedIn, MarkedTo, Stretched, Reaches, Alone};
 use super::Found;
 use super::blocks::behind;
 use super::blocks::block_in;
@@ -45,7 +45,7 @@ pub fn mark_block(meta: &mut [u32], q: u32, i: u32) -> bool
 
 // And of a word's block in the run at q.
 fn mark_one(meta: &mut [u32], shape: Shape, q: u32, base: u64, span: u32, w: u64) -> bool
-    requires { ⌜ FieldAsks (now meta) shape q ⌝ }
+    requires { ⌜ FieldPre (now meta) shape q ⌝ }
     requires { ⌜ Near shape q base span ⌝ }
     ensures { λ r. ⌜ MarkedOne r (now (meta .exit)) (now (meta .entry)) shape q w ⌝ }
 {
@@ -92,7 +92,7 @@ fn mark_up(
     list: &[u64],
     i: usize,
 ) -> usize
-    requires { ⌜ FieldAsks (now meta) shape q ⌝ }
+    requires { ⌜ FieldPre (now meta) shape q ⌝ }
     requires { ⌜ Near shape q base span ⌝ }
     requires { ⌜ i < length (now list) ⌝ }
     ensures { λ r. ⌜ Reaches r (now (meta .exit)) (now (meta .entry)) shape q (now (list .entry)) i ⌝ }
@@ -120,7 +120,7 @@ fn mark_down(
     list: &[u64],
     i: usize,
 ) -> usize
-    requires { ⌜ FieldAsks (now meta) shape q ⌝ }
+    requires { ⌜ FieldPre (now meta) shape q ⌝ }
     requires { ⌜ Near shape q base span ⌝ }
     requires { ⌜ i < length (now list) ⌝ }
     ensures { λ r. ⌜ Reaches r (now (meta .exit)) (now (meta .entry)) shape q (now (list .entry)) i ⌝ }
@@ -148,7 +148,7 @@ fn mark_stretch(
     list: &[u64],
     i: usize,
 ) -> usize
-    requires { ⌜ FieldAsks (now meta) shape q ⌝ }
+    requires { ⌜ FieldPre (now meta) shape q ⌝ }
     requires { ⌜ Near shape q base span ⌝ }
     requires { ⌜ i < length (now list) ⌝ }
     ensures { λ r. ⌜ Reaches r (now (meta .exit)) (now (meta .entry)) shape q (now (list .entry)) i ⌝ }
@@ -176,7 +176,7 @@ fn mark_few(
     from: usize,
     end: usize,
 ) -> usize
-    requires { ⌜ FieldAsks (now meta) shape q ⌝ }
+    requires { ⌜ FieldPre (now meta) shape q ⌝ }
     requires { ⌜ Near shape q base span ⌝ }
     requires { ⌜ (from ≤ end) × (end ≤ length (now list)) ⌝ }
     ensures { λ r. ⌜ MarkedTo r (now (meta .exit)) (now (meta .entry)) shape q (now (list .entry)) from end ⌝ }
@@ -205,7 +205,7 @@ fn mark_by(
     list: &[u64],
     from: usize,
 ) -> usize
-    requires { ⌜ FieldAsks (now meta) shape q ⌝ }
+    requires { ⌜ FieldPre (now meta) shape q ⌝ }
     requires { ⌜ Near shape q base span ⌝ }
     requires { ⌜ from ≤ length (now list) ⌝ }
     ensures { λ r. ⌜ MarkedIn r (now (meta .exit)) (now (meta .entry)) shape q (now (list .entry)) from ⌝ }
@@ -241,7 +241,7 @@ fn alone(shape: Shape, q: u32, base: u64, span: u32, list: &[u64], i: usize) -> 
 
 // The listed words from place `from` on are marked, up to the first that is not out in the run at q or is marked: its place.
 pub fn mark_run(meta: &mut [u32], shape: Shape, q: u32, list: &[u64], from: usize) -> usize
-    requires { ⌜ FieldAsks (now meta) shape q ⌝ }
+    requires { ⌜ FieldPre (now meta) shape q ⌝ }
     requires { ⌜ from ≤ length (now list) ⌝ }
     ensures { λ r. ⌜ MarkedIn r (now (meta .exit)) (now (meta .entry)) shape q (now (list .entry)) from ⌝ }
 {
@@ -259,7 +259,7 @@ pub fn mark_run(meta: &mut [u32], shape: Shape, q: u32, list: &[u64], from: usiz
 // The same of a whole list whose words are meant for one run. It is not `mark_run` so that `mark_by` has two callers and stands for itself, and
 // `mark_run`, being short then, is taken into the loop of a mixed list (docs/BACKEND.md).
 pub fn mark_here(meta: &mut [u32], shape: Shape, q: u32, list: &[u64]) -> usize
-    requires { ⌜ FieldAsks (now meta) shape q ⌝ }
+    requires { ⌜ FieldPre (now meta) shape q ⌝ }
     ensures { λ r. ⌜ MarkedIn r (now (meta .exit)) (now (meta .entry)) shape q (now (list .entry)) 0 ⌝ }
 {
     let base = word_of(shape, q, 0);
@@ -277,7 +277,7 @@ pub fn marks_of(shape: Shape) -> u32
 
 // The run's first m words of marks are 0; they are gathered to the end, as in `all_of_kind`.
 pub fn no_marks(meta: &[u32], q: u32, m: u32) -> bool
-    requires { ⌜ ClearAsks (now meta) q m ⌝ }
+    requires { ⌜ ClearPre (now meta) q m ⌝ }
     ensures { λ r. ⌜ r ≡ noMarks (now (meta .entry)) q m ⌝ }
 {
     let mut any = 0;
@@ -291,7 +291,7 @@ pub fn no_marks(meta: &[u32], q: u32, m: u32) -> bool
 
 // They become 0.
 pub fn clear_marks(meta: &mut [u32], q: u32, m: u32)
-    requires { ⌜ ClearAsks (now meta) q m ⌝ }
+    requires { ⌜ ClearPre (now meta) q m ⌝ }
     ensures { λ _. ⌜ now (meta .exit) ≡ clearMarks (now (meta .entry)) q m ⌝ }
 {
     let mut j = 0;
@@ -312,7 +312,7 @@ fn take_word(meta: &mut [u32], q: u32, j: u32)
 
 // They become 0, and the blocks that were marked are out no longer.
 pub fn take_marks(meta: &mut [u32], q: u32, m: u32)
-    requires { ⌜ ClearAsks (now meta) q m ⌝ }
+    requires { ⌜ ClearPre (now meta) q m ⌝ }
     ensures { λ _. ⌜ now (meta .exit) ≡ takeMarks (now (meta .entry)) q m ⌝ }
 {
     let mut j = 0;

@@ -7,16 +7,16 @@ ghost use Rattle.classes.specs.Shape.{shapeOf};
 ghost use Rattle.fields.specs.Field.{mark, Has};
 ghost use Rattle.pages.specs.Stack.{back};
 ghost use Rattle.calls.specs.Release.{relisted};
-ghost use Rattle.release.specs.way.Act.{RunAsks};
-ghost use Rattle.release.specs.way.Asks.{ClassAsks};
-ghost use Rattle.release.specs.way.Fair.{FairAsks};
-ghost use Rattle.release.specs.way.One.{readyAt, staysFair, PutAsks, BackAsks, BackOne, OneIn, OneBack};
+ghost use Rattle.release.specs.way.Act.{RunPre};
+ghost use Rattle.release.specs.way.Pre.{ClassPre};
+ghost use Rattle.release.specs.way.Valid.{ValidPre};
+ghost use Rattle.release.specs.way.One.{readyAt, staysValid, PutPre, BackPre, BackOne, OneIn, OneBack};
 use super::Found;
 use super::blocks::block_in;
 use super::blocks::run_of;
-use super::fair::page_fair;
-use super::fair::row_fair;
 use super::park::relist;
+use super::valid::page_valid;
+use super::valid::row_valid;
 use classes::Shape;
 use classes::shape_of;
 use lists::push_one;
@@ -34,15 +34,15 @@ fn is_ready(meta: &[u32], q: u32, i: u32) -> bool
 }
 
 // Number 13's last test passes for one block of the run at q, and others stay out.
-fn stays_fair(meta: &[u32], n: u32, c: u32, shape: Shape, q: u32) -> bool
-    requires { ⌜ FairAsks (now meta) c shape q ⌝ }
-    ensures { λ r. ⌜ r ≡ staysFair n (now (meta .entry)) c shape q ⌝ }
+fn stays_valid(meta: &[u32], n: u32, c: u32, shape: Shape, q: u32) -> bool
+    requires { ⌜ ValidPre (now meta) c shape q ⌝ }
+    ensures { λ r. ⌜ r ≡ staysValid n (now (meta .entry)) c shape q ⌝ }
 {
     if fields::arena::frontier(meta) > n {
         return false;
     }
-    if page_fair(meta, shape, 1, q) {
-        if row_fair(meta, c) {
+    if page_valid(meta, shape, 1, q) {
+        if row_valid(meta, c) {
             return fields::page::carved(meta, q) - fields::page::free(meta, q) != 1;
         }
     }
@@ -51,20 +51,20 @@ fn stays_fair(meta: &[u32], n: u32, c: u32, shape: Shape, q: u32) -> bool
 
 // Block i is out no longer and lies on its page's stack, and the page is in the partial list.
 fn put_back(meta: &mut [u32], c: u32, q: u32, i: u32)
-    requires { ⌜ PutAsks (now meta) c q i ⌝ }
+    requires { ⌜ PutPre (now meta) c q i ⌝ }
     ensures { λ _. ⌜ now (meta .exit) ≡ relisted (back (now (meta .entry)) q (i ∷ [])) c q ⌝ }
 {
-    fields::out::unmark(meta, q, i);
+    fields::out::clear_out(meta, q, i);
     push_one(meta, q, i);
     relist(meta, c, q);
 }
 
 fn back_one(meta: &mut [u32], n: u32, c: u32, shape: Shape, q: u32, i: u32) -> bool
-    requires { ⌜ BackAsks n (now meta) c shape q i ⌝ }
+    requires { ⌜ BackPre n (now meta) c shape q i ⌝ }
     ensures { λ r. ⌜ BackOne r (now (meta .exit)) n (now (meta .entry)) c shape q i ⌝ }
 {
     if is_ready(meta, q, i) {
-        if stays_fair(meta, n, c, shape, q) {
+        if stays_valid(meta, n, c, shape, q) {
             put_back(meta, c, q, i);
             return true;
         }
@@ -74,7 +74,7 @@ fn back_one(meta: &mut [u32], n: u32, c: u32, shape: Shape, q: u32, i: u32) -> b
 
 // Of a word whose granule is in the run at q.
 fn one_in(meta: &mut [u32], n: u32, c: u32, shape: Shape, q: u32, w: u64) -> bool
-    requires { ⌜ RunAsks n (now meta) c shape q (w ∷ []) ⌝ }
+    requires { ⌜ RunPre n (now meta) c shape q (w ∷ []) ⌝ }
     ensures { λ r. ⌜ OneIn r (now (meta .exit)) n (now (meta .entry)) c shape q w ⌝ }
 {
     let block = block_in(
@@ -92,7 +92,7 @@ fn one_in(meta: &mut [u32], n: u32, c: u32, shape: Shape, q: u32, w: u64) -> boo
 
 // True: the release is carried out, and its fate is KEPT_FATE. False: the book is as it was.
 pub fn release_one(meta: &mut [u32], n: u32, c: u32, w: u64) -> bool
-    requires { ⌜ ClassAsks n (now meta) c (shapeOf c) ⌝ }
+    requires { ⌜ ClassPre n (now meta) c (shapeOf c) ⌝ }
     ensures { λ r. ⌜ OneBack r (now (meta .exit)) n (now (meta .entry)) c (shapeOf c) w ⌝ }
 {
     let shape = shape_of(c);

@@ -1,25 +1,25 @@
 // What becomes of a page whose blocks came back. Every word that is read here has passed its test.
 ghost use mathlib.Core.Path.{_≡_};
 ghost use mathlib.Core.List.{map};
-ghost use Rattle.model.specs.declared.Spot.the-variants.{ToCold};
-ghost use Rattle.model.specs.Spot.{fateOf};
-ghost use Rattle.pages.specs.way.Asks.{LinkAsks};
+ghost use Rattle.model.specs.declared.Destination.the-variants.{ToCold};
+ghost use Rattle.model.specs.Destination.{fateOf};
+ghost use Rattle.pages.specs.way.Pre.{LinkPre};
 ghost use Rattle.pages.specs.Stack.{indexOf};
 ghost use Rattle.calls.specs.Release.{unlisted, relisted, parkCold, parkedIn, parkAt, lastStep};
-ghost use Rattle.release.specs.way.Act.{coldVirgin, settleAt, ParkingAsks, ColdAsks, StoreAsks, BackAsks, SettleAsks, Parked};
+ghost use Rattle.release.specs.way.Act.{coldVirgin, settleAt, ParkingPre, ColdPre, StorePre, BackPre, SettlePre, Parked};
 use super::ARENA_FATE;
 use super::COLD_FATE;
 use super::KEPT_FATE;
-use super::fair::spot_at;
+use super::valid::destination_at;
 use classes::Shape;
-use model::Spot;
+use model::Destination;
 use pages::Park;
 use words::Host;
 use words::Word;
 
 // A page with none out leaves the partial list.
 fn unlist(meta: &mut [u32], c: u32, shape: Shape, q: u32)
-    requires { ⌜ ParkingAsks (now meta) c shape q ⌝ }
+    requires { ⌜ ParkingPre (now meta) c shape q ⌝ }
     ensures { λ _. ⌜ now (meta .exit) ≡ unlisted (now (meta .entry)) c q ⌝ }
 {
     if fields::page::listed(meta, q) == 1 {
@@ -29,7 +29,7 @@ fn unlist(meta: &mut [u32], c: u32, shape: Shape, q: u32)
 
 // One with some out heads it if absent.
 pub fn relist(meta: &mut [u32], c: u32, q: u32)
-    requires { ⌜ LinkAsks (now meta) c q ⌝ }
+    requires { ⌜ LinkPre (now meta) c q ⌝ }
     ensures { λ _. ⌜ now (meta .exit) ≡ relisted (now (meta .entry)) c q ⌝ }
 {
     if fields::page::listed(meta, q) == 0 {
@@ -58,51 +58,58 @@ fn cold_fate(shape: Shape) -> u32
     }
 }
 
-fn fate_of(shape: Shape, spot: Spot) -> u32
-    ensures { λ r. ⌜ r ≡ fateOf shape spot ⌝ }
+fn fate_of(shape: Shape, destination: Destination) -> u32
+    ensures { λ r. ⌜ r ≡ fateOf shape destination ⌝ }
 {
-    match spot {
-        Spot::ToEmpty => KEPT_FATE,
-        Spot::ToCold => cold_fate(shape),
-        Spot::ToArena => ARENA_FATE,
+    match destination {
+        Destination::ToEmpty => KEPT_FATE,
+        Destination::ToCold => cold_fate(shape),
+        Destination::ToArena => ARENA_FATE,
     }
 }
 
 // A parked cold page is kept as it will come back: carved anew.
 fn park_cold(meta: &mut [u32], c: u32, shape: Shape, host: u32, q: u32)
-    requires { ⌜ ColdAsks (now meta) c shape q ⌝ }
+    requires { ⌜ ColdPre (now meta) c shape q ⌝ }
     ensures { λ _. ⌜ now (meta .exit) ≡ parkCold (now (meta .entry)) c shape host q ⌝ }
 {
     lists::carve_anew(meta, shape, q, cold_virgin(shape, host));
-    lists::park_in(meta, c, Park::Cold, q);
+    lists::park_run(meta, c, Park::Cold, q);
 }
 
-// By the spot; a page for the arena stays in no list.
-fn park_at_spot(meta: &mut [u32], c: u32, shape: Shape, host: u32, q: u32, spot: Spot)
-    requires { ⌜ StoreAsks (now meta) c shape q ⌝ }
-    ensures { λ _. ⌜ now (meta .exit) ≡ parkedIn (now (meta .entry)) c shape host q spot ⌝ }
+// By the destination; a page for the arena stays in no list.
+fn park_at_destination(
+    meta: &mut [u32],
+    c: u32,
+    shape: Shape,
+    host: u32,
+    q: u32,
+    destination: Destination,
+)
+    requires { ⌜ StorePre (now meta) c shape q ⌝ }
+    ensures { λ _. ⌜ now (meta .exit) ≡ parkedIn (now (meta .entry)) c shape host q destination ⌝ }
 {
-    match spot {
-        Spot::ToEmpty => lists::park_in(meta, c, Park::Empty, q),
-        Spot::ToCold => park_cold(meta, c, shape, host, q),
-        Spot::ToArena => {}
+    match destination {
+        Destination::ToEmpty => lists::park_run(meta, c, Park::Empty, q),
+        Destination::ToCold => park_cold(meta, c, shape, host, q),
+        Destination::ToArena => {}
     }
 }
 
 // Parks a page with none out; its fate.
 pub fn park_empty_page(meta: &mut [u32], c: u32, shape: Shape, host: u32, q: u32) -> u32
-    requires { ⌜ ParkingAsks (now meta) c shape q ⌝ }
+    requires { ⌜ ParkingPre (now meta) c shape q ⌝ }
     ensures { λ r. ⌜ Parked r (now (meta .exit)) (parkAt (now (meta .entry)) c shape host q) ⌝ }
 {
-    let spot = spot_at(meta, c, shape);
+    let destination = destination_at(meta, c, shape);
     unlist(meta, c, shape, q);
-    park_at_spot(meta, c, shape, host, q, spot);
-    fate_of(shape, spot)
+    park_at_destination(meta, c, shape, host, q, destination);
+    fate_of(shape, destination)
 }
 
 // The listed blocks, which are struck, come back to their page.
-fn give_back(meta: &mut [u32], c: u32, shape: Shape, host: u32, q: u32, list: &[u64]) -> u32
-    requires { ⌜ BackAsks (now meta) c shape q (now list) ⌝ }
+fn release_inner(meta: &mut [u32], c: u32, shape: Shape, host: u32, q: u32, list: &[u64]) -> u32
+    requires { ⌜ BackPre (now meta) c shape q (now list) ⌝ }
     ensures { λ r. ⌜ Parked r (now (meta .exit)) (settleAt (now (meta .entry)) c shape host q (map (indexOf shape q) (now (list .entry)))) ⌝ }
 {
     lists::push_list(meta, shape, q, list);
@@ -123,10 +130,10 @@ pub fn settle(
     q: u32,
     list: &[u64],
 ) -> u32
-    requires { ⌜ SettleAsks n (now meta) c shape q (now list) ⌝ }
+    requires { ⌜ SettlePre n (now meta) c shape q (now list) ⌝ }
     ensures { λ r. ⌜ Parked r (now (meta .exit)) (lastStep shape q (settleAt (now (meta .entry)) c shape host q (map (indexOf shape q) (now (list .entry))))) ⌝ }
 {
-    let fate = give_back(meta, c, shape, host, q, list);
+    let fate = release_inner(meta, c, shape, host, q, list);
     if fate == ARENA_FATE {
         runs::give::give(meta, n, q, shape.pages);
     }

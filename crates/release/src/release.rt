@@ -8,18 +8,17 @@ ghost use lib.Dec.{eqb, ltb};
 ghost use lib.ListN.{length};
 ghost use Rattle.classes.specs.Shape.{shapeOf};
 ghost use Rattle.fields.specs.Field.{words};
-ghost use Rattle.pages.specs.Stack.{marks, indexOf, pageAt};
+ghost use Rattle.pages.specs.Stack.{setOuts, indexOf, pageAt};
 ghost use Rattle.calls.specs.Out.{startOf};
 ghost use Rattle.calls.specs.Release.{releaseBlocks};
-ghost use Rattle.release.specs.way.Asks.{ClassAsks, StartAsks, TakeAsks};
-ghost use Rattle.release.specs.way.MarkAsks.{FieldAsks, MarkedAll};
-ghost use Rattle.release.specs.way.Act.{takenBy, MarkedAsks, PassedAsks, ListAsks, Answered, Attempted, Prepared, Finished};
+ghost use Rattle.release.specs.way.Pre.{ClassPre, StartPre, TakePre};
+ghost use Rattle.release.specs.way.MarkPre.{FieldPre, MarkedAll};
+ghost use Rattle.release.specs.way.Act.{takenBy, MarkedPre, PassedPre, ListPre, Answered, Attempted, Prepared, Finished};
 use super::Found;
 use super::KEPT_FATE;
-use super::Ready;
 use super::Released;
+use super::Verdict;
 use super::blocks::run_of;
-use super::fair::release_fair;
 use super::kinds::all_of_kind;
 use super::marks::clear_marks;
 use super::marks::mark_here;
@@ -29,6 +28,7 @@ use super::marks::take_marks;
 use super::one::release_one;
 use super::park::settle;
 use super::tests::out_fault;
+use super::valid::release_valid;
 use classes::Shape;
 use classes::shape_of;
 use lists::index_of;
@@ -44,7 +44,7 @@ fn starts_at(meta: &[u32], n: u32, q: u32, w: u64) -> bool
 }
 
 fn of_one_run(meta: &[u32], n: u32, q: u32, list: &[u64]) -> bool
-    requires { ⌜ StartAsks n (now meta) (now list) ⌝ }
+    requires { ⌜ StartPre n (now meta) (now list) ⌝ }
     ensures { λ r. ⌜ r ≡ every (λ w. eqb (startOf (now (meta .entry)) w) q) (now (list .entry)) ⌝ }
 {
     let mut i = 0;
@@ -60,8 +60,8 @@ fn of_one_run(meta: &[u32], n: u32, q: u32, list: &[u64]) -> bool
 
 // The listed blocks of the run at q are out no longer.
 fn take_list(meta: &mut [u32], shape: Shape, q: u32, list: &[u64])
-    requires { ⌜ TakeAsks (now meta) shape q (now list) ⌝ }
-    ensures { λ _. ⌜ now (meta .exit) ≡ marks (now (meta .entry)) q 0 (map (indexOf shape q) (now (list .entry))) ⌝ }
+    requires { ⌜ TakePre (now meta) shape q (now list) ⌝ }
+    ensures { λ _. ⌜ now (meta .exit) ≡ setOuts (now (meta .entry)) q 0 (map (indexOf shape q) (now (list .entry))) ⌝ }
 {
     let mut i = list.len();
     while i != 0 {
@@ -72,7 +72,7 @@ fn take_list(meta: &mut [u32], shape: Shape, q: u32, list: &[u64])
 
 // They are, by m words of marks, or by the list where they are not marked: a mark of another block of the run is to stay.
 fn take_all(meta: &mut [u32], shape: Shape, q: u32, m: u32, list: &[u64])
-    requires { ⌜ TakeAsks (now meta) shape q (now list) ⌝ }
+    requires { ⌜ TakePre (now meta) shape q (now list) ⌝ }
     requires { ⌜ m ≤ 128 ⌝ }
     ensures { λ _. ⌜ now (meta .exit) ≡ takenBy (now (meta .entry)) shape q m (now (list .entry)) ⌝ }
 {
@@ -94,10 +94,10 @@ fn finish(
     m: u32,
     list: &[u64],
 ) -> Released
-    requires { ⌜ MarkedAsks n (now meta) c shape q m (now list) ⌝ }
+    requires { ⌜ MarkedPre n (now meta) c shape q m (now list) ⌝ }
     ensures { λ r. ⌜ Finished r (now (meta .exit)) n (now (meta .entry)) c shape host q m (now (list .entry)) ⌝ }
 {
-    if release_fair(meta, n, c, shape, list.len(), q) {
+    if release_valid(meta, n, c, shape, list.len(), q) {
         take_all(meta, shape, q, m, list);
         return Released::Fate(settle(meta, n, c, shape, host, q, list));
     }
@@ -106,35 +106,35 @@ fn finish(
 }
 
 // Number 11, of words that are out.
-fn one_run(meta: &[u32], n: u32, c: u32, shape: Shape, list: &[u64]) -> Ready
-    requires { ⌜ PassedAsks n (now meta) c shape (now list) ⌝ }
+fn one_run(meta: &[u32], n: u32, c: u32, shape: Shape, list: &[u64]) -> Verdict
+    requires { ⌜ PassedPre n (now meta) c shape (now list) ⌝ }
     ensures { λ r. ⌜ Prepared r (now (meta .entry)) n (now (meta .entry)) c shape (now (list .entry)) ⌝ }
 {
     let q = fields::page::first(meta, page_within(list[0]));
     if of_one_run(meta, n, q, list) {
-        return Ready::In(q, 0);
+        return Verdict::In(q, 0);
     }
-    Ready::No(11)
+    Verdict::No(11)
 }
 
 // Each number over the whole list, from number 9 on.
-fn test_list(meta: &mut [u32], n: u32, c: u32, shape: Shape, list: &[u64]) -> Ready
-    requires { ⌜ ListAsks n (now meta) c shape (now list) ⌝ }
+fn test_list(meta: &mut [u32], n: u32, c: u32, shape: Shape, list: &[u64]) -> Verdict
+    requires { ⌜ ListPre n (now meta) c shape (now list) ⌝ }
     ensures { λ r. ⌜ Prepared r (now (meta .exit)) n (now (meta .entry)) c shape (now (list .entry)) ⌝ }
 {
     if all_of_kind(list, shape.kind) {
         let fault = out_fault(meta, n, c, shape, list);
         if fault != 0 {
-            return Ready::No(fault);
+            return Verdict::No(fault);
         }
         return one_run(meta, n, c, shape, list);
     }
-    Ready::No(9)
+    Verdict::No(9)
 }
 
 // A list whose words are all blocks out in the run at q, which has no mark: they are marked. Else the book is as it was.
 fn mark_all(meta: &mut [u32], shape: Shape, q: u32, list: &[u64]) -> bool
-    requires { ⌜ FieldAsks (now meta) shape q ⌝ }
+    requires { ⌜ FieldPre (now meta) shape q ⌝ }
     ensures { λ r. ⌜ MarkedAll r (now (meta .exit)) (now (meta .entry)) shape q (now (list .entry)) ⌝ }
 {
     let m = marks_of(shape);
@@ -151,7 +151,7 @@ fn mark_all(meta: &mut [u32], shape: Shape, q: u32, list: &[u64]) -> bool
 
 // In as few passes as there can be: the run of the first word, if all words are marked as its blocks. Else the book is as it was.
 fn try_list(meta: &mut [u32], n: u32, c: u32, shape: Shape, list: &[u64]) -> Found
-    requires { ⌜ ListAsks n (now meta) c shape (now list) ⌝ }
+    requires { ⌜ ListPre n (now meta) c shape (now list) ⌝ }
     ensures { λ r. ⌜ Attempted r (now (meta .exit)) n (now (meta .entry)) c shape (now (list .entry)) ⌝ }
 {
     let run = run_of(meta, n, c, shape, list[0]);
@@ -164,15 +164,15 @@ fn try_list(meta: &mut [u32], n: u32, c: u32, shape: Shape, list: &[u64]) -> Fou
     Found::Nothing
 }
 
-fn prepare(meta: &mut [u32], n: u32, c: u32, shape: Shape, list: &[u64]) -> Ready
-    requires { ⌜ ListAsks n (now meta) c shape (now list) ⌝ }
+fn prepare(meta: &mut [u32], n: u32, c: u32, shape: Shape, list: &[u64]) -> Verdict
+    requires { ⌜ ListPre n (now meta) c shape (now list) ⌝ }
     ensures { λ r. ⌜ Prepared r (now (meta .exit)) n (now (meta .entry)) c shape (now (list .entry)) ⌝ }
 {
     let tried = try_list(meta, n, c, shape, list);
     let Found::At(q) = tried else {
         return test_list(meta, n, c, shape, list);
     };
-    Ready::In(q, marks_of(shape))
+    Verdict::In(q, marks_of(shape))
 }
 
 // From number 7 on.
@@ -184,7 +184,7 @@ fn release_shaped(
     host: u32,
     list: &[u64],
 ) -> Released
-    requires { ⌜ ClassAsks n (now meta) c shape ⌝ }
+    requires { ⌜ ClassPre n (now meta) c shape ⌝ }
     ensures { λ r. ⌜ Answered r (now (meta .exit)) (releaseBlocks n (now (meta .entry)) c shape host (now (list .entry))) ⌝ }
 {
     if list.len() == 0 {
@@ -192,14 +192,14 @@ fn release_shaped(
     }
     let ready = prepare(meta, n, c, shape, list);
     match ready {
-        Ready::No(k) => Released::Refused(k),
-        Ready::In(q, m) => finish(meta, n, c, shape, host, q, m, list),
+        Verdict::No(k) => Released::Refused(k),
+        Verdict::In(q, m) => finish(meta, n, c, shape, host, q, m, list),
     }
 }
 
 // The shape is made here: handed over it would go through memory (docs/BACKEND.md).
 pub fn release_list(meta: &mut [u32], n: u32, c: u32, host: u32, list: &[u64]) -> Released
-    requires { ⌜ ClassAsks n (now meta) c (shapeOf c) ⌝ }
+    requires { ⌜ ClassPre n (now meta) c (shapeOf c) ⌝ }
     ensures { λ r. ⌜ Answered r (now (meta .exit)) (releaseBlocks n (now (meta .entry)) c (shapeOf c) host (now (list .entry))) ⌝ }
 {
     release_shaped(meta, n, c, shape_of(c), host, list)
@@ -207,7 +207,7 @@ pub fn release_list(meta: &mut [u32], n: u32, c: u32, host: u32, list: &[u64]) -
 
 // The same, at once where one block is listed and others of its run stay out.
 pub fn release_blocks(meta: &mut [u32], n: u32, c: u32, host: u32, list: &[u64]) -> Released
-    requires { ⌜ ClassAsks n (now meta) c (shapeOf c) ⌝ }
+    requires { ⌜ ClassPre n (now meta) c (shapeOf c) ⌝ }
     ensures { λ r. ⌜ Answered r (now (meta .exit)) (releaseBlocks n (now (meta .entry)) c (shapeOf c) host (now (list .entry))) ⌝ }
 {
     if list.len() != 1 {

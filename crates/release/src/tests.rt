@@ -4,9 +4,9 @@ ghost use Prim.Native.Nat.{_≤_};
 ghost use lib.ListN.{length, take};
 ghost use Rattle.facts.specs.Lists.{every};
 ghost use Rattle.calls.specs.Out.{outAt, unmarked};
-ghost use Rattle.release.specs.way.Asks.{ClassAsks};
+ghost use Rattle.release.specs.way.Pre.{ClassPre};
 ghost use Rattle.release.specs.way.Marks.{clearBook};
-ghost use Rattle.release.specs.way.MarkAsks.{MarkedList, FaultAsks, TestAsks, Tested, Faulted};
+ghost use Rattle.release.specs.way.MarkPre.{MarkedList, FaultPre, TestPre, Tested, Faulted};
 use super::Out;
 use super::blocks::find_out;
 use super::marks::mark_block;
@@ -14,7 +14,7 @@ use classes::Shape;
 
 // Number 13: the word of marks of every listed block that is out is 0.
 fn list_clean(meta: &[u32], n: u32, c: u32, shape: Shape, list: &[u64]) -> bool
-    requires { ⌜ ClassAsks n (now meta) c shape ⌝ }
+    requires { ⌜ ClassPre n (now meta) c shape ⌝ }
     ensures { λ r. ⌜ r ≡ unmarked n (now (meta .entry)) c shape (now (list .entry)) ⌝ }
 {
     let mut i = 0;
@@ -33,7 +33,7 @@ fn list_clean(meta: &[u32], n: u32, c: u32, shape: Shape, list: &[u64]) -> bool
 
 // The blocks that are out are marked, up to the first that is marked already: its place.
 fn mark_list(meta: &mut [u32], n: u32, c: u32, shape: Shape, list: &[u64]) -> usize
-    requires { ⌜ ClassAsks n (now meta) c shape ⌝ }
+    requires { ⌜ ClassPre n (now meta) c shape ⌝ }
     ensures { λ r. ⌜ MarkedList r (now (meta .exit)) n (now (meta .entry)) c shape (now (list .entry)) ⌝ }
 {
     let mut i = 0;
@@ -54,7 +54,7 @@ fn mark_list(meta: &mut [u32], n: u32, c: u32, shape: Shape, list: &[u64]) -> us
 
 // And back: of the first `count` listed words, the word of marks of each block that is out becomes 0.
 fn clear_list(meta: &mut [u32], n: u32, c: u32, shape: Shape, list: &[u64], count: usize)
-    requires { ⌜ ClassAsks n (now meta) c shape ⌝ }
+    requires { ⌜ ClassPre n (now meta) c shape ⌝ }
     requires { ⌜ count ≤ length (now list) ⌝ }
     ensures { λ _. ⌜ now (meta .exit) ≡ clearBook n (now (meta .entry)) c shape (take count (now (list .entry))) ⌝ }
 {
@@ -71,7 +71,7 @@ fn clear_list(meta: &mut [u32], n: u32, c: u32, shape: Shape, list: &[u64], coun
 
 // Number 15, where the words of marks of the listed blocks that are out are 0: one of these blocks stands twice. The book is as it was.
 fn list_repeats(meta: &mut [u32], n: u32, c: u32, shape: Shape, list: &[u64]) -> bool
-    requires { ⌜ TestAsks n (now meta) c shape (now list) ⌝ }
+    requires { ⌜ TestPre n (now meta) c shape (now list) ⌝ }
     ensures { λ r. ⌜ Tested r (now (meta .exit)) n (now (meta .entry)) c shape (now (list .entry)) ⌝ }
 {
     let count = mark_list(meta, n, c, shape, list);
@@ -84,7 +84,7 @@ fn list_repeats(meta: &mut [u32], n: u32, c: u32, shape: Shape, list: &[u64]) ->
 
 // Number 10: every listed block is out in the class.
 fn list_out(meta: &[u32], n: u32, c: u32, shape: Shape, list: &[u64]) -> bool
-    requires { ⌜ ClassAsks n (now meta) c shape ⌝ }
+    requires { ⌜ ClassPre n (now meta) c shape ⌝ }
     ensures { λ r. ⌜ r ≡ every (outAt n (now (meta .entry)) c shape) (now (list .entry)) ⌝ }
 {
     let mut i = 0;
@@ -100,7 +100,7 @@ fn list_out(meta: &[u32], n: u32, c: u32, shape: Shape, list: &[u64]) -> bool
 
 // 13, 15 or 10, or 0. The book is as it was.
 pub fn out_fault(meta: &mut [u32], n: u32, c: u32, shape: Shape, list: &[u64]) -> u32
-    requires { ⌜ FaultAsks n (now meta) c shape (now list) ⌝ }
+    requires { ⌜ FaultPre n (now meta) c shape (now list) ⌝ }
     ensures { λ r. ⌜ Faulted r (now (meta .exit)) n (now (meta .entry)) c shape (now (list .entry)) ⌝ }
 {
     if list_clean(meta, n, c, shape, list) {

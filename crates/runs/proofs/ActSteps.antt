@@ -25,10 +25,10 @@ use Rattle.arena.specs.Owners.{own}
 use Rattle.arena.specs.Load.{loadHole, loadHoles}
 use Rattle.arena.specs.Store.{storeHole}
 use Rattle.runs.specs.way.Act.{withState, Gives, drawWords, drawRecord, Draws, endNone, endRun, endGiven, settle, fromFrontier, holeDrawn, commitDrawn, nextState, commitPlanned}
-use Rattle.runs.specs.way.Asks.{RecordIn, HoleIn, PlanIn, EndsIn, RequestIn, RunIn, BackIn}
+use Rattle.runs.specs.way.Pre.{RecordIn, HoleIn, PlanIn, EndsIn, RequestIn, RunIn, BackIn}
 use Rattle.runs.specs.Answer.{Answers}
 use Rattle.runs.proofs.StoreLaws.{hole-length}
-use Rattle.runs.proofs.EndsFair.{ends-more, draw-fair}
+use Rattle.runs.proofs.EndsValid.{ends-more, draw-valid}
 
 -- ---- the record afterwards
 abbrev drawOf : ℕ → ℕ → ℕ → ℕ → Bool → Bool → Draw
@@ -116,8 +116,8 @@ module _ (b : List ℕ) (a : Arena) (m i : ℕ) (g : Hole) (here : g ≡ loadHol
         let h₆ = ra .short in
         let few : k ≤ holeSlots = subst (λ z. z ≤ holeSlots) (sym (d .count)) (draw-count (ra .few)) in
         let y = same-frontier s a in
-        let fair = draw-fair (a .frontier) (q .size) b (le-leb _ _ h₄) a m i (ra .few) (rh .stored) re in
-        let there : EndsIn x (drawnBy (drawOf s k 0 m t t) a) = rw (y, d .book, d .count) fair in
+        let valid = draw-valid (a .frontier) (q .size) b (le-leb _ _ h₄) a m i (ra .few) (rh .stored) re in
+        let there : EndsIn x (drawnBy (drawOf s k 0 m t t) a) = rw (y, d .book, d .count) valid in
         record {
           long = omega arith;
           store = record { long = omega arith; few = few; short = omega arith; low = omega arith; near = omega arith; ends = there };
@@ -135,10 +135,10 @@ module _ (b : List ℕ) (a : Arena) (q : Request) (rq : RequestIn b q) (ra : Rec
       let h₂ = rq .small in
       let h₃ = ra .short in
       let h₄ = ra .few in
-      let fair = re (ap commitGranted (sym e) ∙ sym u ∙ v) l in
+      let valid = re (ap commitGranted (sym e) ∙ sym u ∙ v) l in
       record {
         long = omega arith;
-        store = record { long = omega arith; few = h₄; short = omega arith; low = omega arith; near = omega arith; ends = ends-more (a .frontier) (a .frontier + q .pages) (omega arith) (loadHoles b 0 (a .count)) fair };
+        store = record { long = omega arith; few = h₄; short = omega arith; low = omega arith; near = omega arith; ends = ends-more (a .frontier) (a .frontier + q .pages) (omega arith) (loadHoles b 0 (a .count)) valid };
       }
 
 -- ---- the end

@@ -33,14 +33,14 @@ use Rattle.runs.specs.declared.Arena.{Arena as Record}
 use Rattle.arena.specs.Load.{statusOf, statusCode, loadHole, loadHoles, loadStore, loadArena}
 use Rattle.arena.specs.Store.{storeHole, storeHoles, storeArena}
 use Rattle.runs.specs.way.Record.{recordOf, storeRecord, advanced, counted}
-use Rattle.arena.specs.Fair.{recordFair, holeEndsFair, holesEndFair, holeFair, holesFair, commitFair}
+use Rattle.arena.specs.Valid.{recordValid, holeEndsValid, holesEndValid, holeValid, holesValid, commitValid}
 use Rattle.arena.specs.Owners.{ownerCode, own}
 use Rattle.runs.specs.way.Plan.{indexCode, planAs, planOf, neighboursOf}
 use Rattle.arena.specs.Calls.{Committed, settledArena, readyArena, arenaAs, committedArena, grownArena, advance, passedTo, committed, commitFor, given, grownBy, grownBook, growBook}
 use Rattle.runs.specs.way.Act.{withState, touching, giveWords, giveRecord, drawWords, drawRecord, endNone, endRun, endGiven, settle, fromFrontier, holeDrawn, commitDrawn, commitPlanned, planned, commitRead, commitActs, givenWith, giveActs, growWith, growActs}
 use Rattle.runs.proofs.StoreLaws.{holes-length, holes-kept, holes-set, holes-removed, loaded-at, removed-length}
 use Rattle.runs.proofs.Joins.{holds, place-stands, no-place}
-use Rattle.runs.proofs.EndsFair.{every-at, every-weaker, take-fair}
+use Rattle.runs.proofs.EndsValid.{every-at, every-weaker, take-valid}
 use Rattle.arena.proofs.Frames.{loaded-length, isOwner, holes-change, holes-there, arena-changes, own-changes, own-twice}
 use Rattle.fields.proofs.Changes.{changes-none}
 
@@ -81,12 +81,12 @@ not-apart : (m q : ℕ) (h : Hole) → endsAt q h ≡ true → startsAt (q + m) 
 not-apart m q h e d l = omega (arith, eqb-true (h .first + h .pages) q e, eqb-true (h .first) (q + m) d)
 
 module _ (n : ℕ) (b : List ℕ) (hb : leb (words n) (length b) ≡ true) (m q : ℕ) (a : Arena) (here : loadHoles b 0 (length (a .store .holes)) ≡ a .store .holes) (few : length (a .store .holes) ≤ holeSlots)
-    (f : ℕ) (fair : every (holeEndsFair f) (a .store .holes) ≡ true) where
+    (f : ℕ) (valid : every (holeEndsValid f) (a .store .holes) ≡ true) where
   abbrev hs : List Hole
   hs = a .store .holes
 
   some-pages : (i : ℕ) → i < length hs → 1 ≤ holeAt i hs .pages
-  some-pages i l = leb-true 1 _ (and-left _ _ (every-at (holeEndsFair f) hs i fair l))
+  some-pages i l = leb-true 1 _ (and-left _ _ (every-at (holeEndsValid f) hs i valid l))
 
   pub give-stands : Stands b (give m q a) (giveWords b (summary a) m q) (giveRecord b (summary a) m q)
   unfolding give accepts insert giveWords giveRecord touching neighboursOf
@@ -100,12 +100,12 @@ module _ (n : ℕ) (b : List ℕ) (hb : leb (words n) (length b) ≡ true) (m q 
       (λ t. rw (here, t) (record { words = holds n b hb hs here few; top = refl }))
 
 -- a run that was drawn is given: the holes after the draw are stored, then it is a give
-pub given-stored : (n : ℕ) (b : List ℕ) → leb (words n) (length b) ≡ true → (m q : ℕ) (a : Arena) (x : List ℕ) (r : Record) → Stands b a x r → length (a .store .holes) ≤ holeSlots → (f : ℕ) → every (holeEndsFair f) (a .store .holes) ≡ true
+pub given-stored : (n : ℕ) (b : List ℕ) → leb (words n) (length b) ≡ true → (m q : ℕ) (a : Arena) (x : List ℕ) (r : Record) → Stands b a x r → length (a .store .holes) ≤ holeSlots → (f : ℕ) → every (holeEndsValid f) (a .store .holes) ≡ true
     → storeArena (storeHoles b 0 (a .store .holes)) (give m q a) ≡ storeRecord (giveWords x r m q) (giveRecord x r m q)
-given-stored n b hb m q a x r k few f fair =
+given-stored n b hb m q a x r k few f valid =
     let y = storeHoles b 0 (a .store .holes) in
     let hy : leb (words n) (length y) ≡ true = rw (holes-length b 0 (a .store .holes)) hb in
-    let z = give-stands n y hy m q a (holes-there n b 0 (a .store .holes) hb (omega arith)) few f fair in
+    let z = give-stands n y hy m q a (holes-there n b 0 (a .store .holes) hb (omega arith)) few f valid in
     stands-stored y (give m q a) _ _ z
     ∙ ap (λ w. storeRecord (giveWords w (summary a) m q) (giveRecord w (summary a) m q)) (k .words)
     ∙ ap (λ w. storeRecord (giveWords x w m q) (giveRecord x w m q)) (k .top)
@@ -167,13 +167,13 @@ module _ (n : ℕ) (b : List ℕ) (hb : leb (words n) (length b) ≡ true) (m w 
       ) (rw z))
 
   -- given, where it is not granted
-  module _ (f : ℕ) (fair : every (holeEndsFair f) (a .store .holes) ≡ true) (q : ℕ) where
+  module _ (f : ℕ) (valid : every (holeEndsValid f) (a .store .holes) ≡ true) (q : ℕ) where
     given-words : List ℕ
     given-words = storeArena (storeHoles b 0 (a .store .holes)) (give m q a)
 
     given-are : given-words ≡ storeRecord (giveWords x r m q) (giveRecord x r m q)
     unfolding given-words
-    given-are = given-stored n b hb m q a x r k few f fair
+    given-are = given-stored n b hb m q a x r k few f valid
 
     held-given : get given-words (arena held) ≡ get b (arena held)
     unfolding given-words
@@ -195,10 +195,10 @@ module _ (n : ℕ) (b : List ℕ) (hb : leb (words n) (length b) ≡ true) (m w 
 
 -- granted or not
 module _ (n : ℕ) (b : List ℕ) (hb : leb (words n) (length b) ≡ true) (m h w : ℕ) (a : Arena) (x : List ℕ) (r : Record) (k : Stands b a x r) (few : length (a .store .holes) ≤ holeSlots)
-    (f : ℕ) (fair : commitGranted h ≡ false → every (holeEndsFair f) (a .store .holes) ≡ true) (q : ℕ) where
+    (f : ℕ) (valid : commitGranted h ≡ false → every (holeEndsValid f) (a .store .holes) ≡ true) (q : ℕ) where
   settles-reuse : a .frontier ≡ get b (arena frontier) → finish b (settledArena h m b a (some q) false) (grant h m a (some q) false) m w ≡ settle x r m q false h w (get b (arena held))
   unfolding grant settledArena settle
-  settles-reuse e = by-cases (commitGranted h) (λ t. rw t (ends-reuse n b hb m w a x r k few q e)) (λ t. rw t (ends-reuse-given n b hb m w a x r k few f (fair t) q e))
+  settles-reuse e = by-cases (commitGranted h) (λ t. rw t (ends-reuse n b hb m w a x r k few q e)) (λ t. rw t (ends-reuse-given n b hb m w a x r k few f (valid t) q e))
 
   settles-fresh : q ≡ get b (arena frontier) → a .frontier ≡ get b (arena frontier) + m → a .frontier ≤ n
       → finish b (settledArena h m b a (some q) true) (grant h m a (some q) true) m w ≡ settle x r m q true h w (get b (arena held))
@@ -206,7 +206,7 @@ module _ (n : ℕ) (b : List ℕ) (hb : leb (words n) (length b) ≡ true) (m h 
   settles-fresh s e l =
       by-cases (commitGranted h)
       (λ t. rw (t, s) (ends-fresh n b hb m w a x r k few e l))
-      (λ t. rw t (ends-fresh-given n b hb m w a x r k few f (fair t) q s e))
+      (λ t. rw t (ends-fresh-given n b hb m w a x r k few f (valid t) q s e))
 
 -- ---- a run from the holes
 module _ (n : ℕ) (b : List ℕ) (hb : leb (words n) (length b) ≡ true) (few : get b (arena holes) ≤ holeSlots) (m : ℕ) where
@@ -272,7 +272,7 @@ module _ (n : ℕ) (b : List ℕ) (hb : leb (words n) (length b) ≡ true) (few 
         (λ t. rw (t, used-length) (omega arith))
 
   -- the run drawn and settled, for any record that goes with the store
-  module _ (h w : ℕ) (f : ℕ) (fair : every (holeEndsFair f) HS ≡ true) (a : Arena) (fr : a .frontier ≡ get b (arena frontier)) where
+  module _ (h w : ℕ) (f : ℕ) (valid : every (holeEndsValid f) HS ≡ true) (a : Arena) (fr : a .frontier ≡ get b (arena frontier)) where
     A₀ : Arena
     A₀ = Arenas.withStore S a
 
@@ -290,7 +290,7 @@ module _ (n : ℕ) (b : List ℕ) (hb : leb (words n) (length b) ≡ true) (few 
     unfolding settled drawFrom fromFrontier grant settledArena A₀ S
     by-frontier =
         by-cases (leb (a .frontier + m) n)
-        (λ t. rw t (settles-fresh n b hb m h w (Arenas.withFrontier (a .frontier + m) A₀) b _ (stands-frontier b A₀ b _ stands m) lf f (λ _. fair) (a .frontier) fr (omega (arith, fr)) (leb-true _ n t)))
+        (λ t. rw t (settles-fresh n b hb m h w (Arenas.withFrontier (a .frontier + m) A₀) b _ (stands-frontier b A₀ b _ stands m) lf f (λ _. valid) (a .frontier) fr (omega (arith, fr)) (leb-true _ n t)))
         (λ t. rw t (ends-none n b hb m w A₀ b _ stands lf fr))
 
     by-hole : (i : ℕ) → i < length HS → settled (drawFrom n m A₀ (some i)) ≡ commitDrawn n b (summary A₀) (suc i) m h w (get b (arena held))
@@ -300,18 +300,18 @@ module _ (n : ℕ) (b : List ℕ) (hb : leb (words n) (length b) ≡ true) (few 
         rw (ne-eqb (suc i) 0 (λ e. omega arith), d)
         (ap (λ q. finish b (settledArena h m b (Arenas.withStore (takeAt m i S) a) (some q) false) (grant h m (Arenas.withStore (takeAt m i S) a) (some q) false) m w) (ap (λ x. x .first) (hole-HS i l))
         ∙ settles-reuse n b hb m h w _ (drawWords b (summary A₀) m i) (drawRecord b (summary A₀) m i)
-        (record { words = draw-words i l (summary A₀) refl; top = draw-top i l a }) (few-drawn i l) f (λ _. take-fair f m i S l fair) (loadHole b i .first) fr)
+        (record { words = draw-words i l (summary A₀) refl; top = draw-top i l a }) (few-drawn i l) f (λ _. take-valid f m i S l valid) (loadHole b i .first) fr)
 
     drawn : (o : Option ℕ) → Chosen m HS o → settled (drawFrom n m A₀ o) ≡ commitDrawn n b (summary A₀) (indexCode o) m h w (get b (arena held))
     unfolding commitDrawn
     drawn o (no-hole e) = by-frontier
     drawn o (at-hole i l u) = by-hole i (l .inside)
 
-  module _ (h w : ℕ) (f : ℕ) (fair : every (holeEndsFair f) HS ≡ true) where
+  module _ (h w : ℕ) (f : ℕ) (valid : every (holeEndsValid f) HS ≡ true) where
     by-ready : (s : Status) (r : Record) → summary (Arenas.withStatus s (loadArena b)) ≡ r
         → finish b (readyArena n h m b (Arenas.withStatus s (loadArena b))) (commitReady n h m (Arenas.withStatus s (loadArena b))) m w ≡ commitDrawn n b r (indexCode (choose m HS)) m h w (get b (arena held))
     unfolding commitReady readyArena draw loadArena loadStore HS S A₀ settled
-    by-ready s r top = drawn h w f fair (Arenas.withStatus s (loadArena b)) refl (choose m HS) (chosen m HS) ∙ ap (λ z. commitDrawn n b z (indexCode (choose m HS)) m h w (get b (arena held))) top
+    by-ready s r top = drawn h w f valid (Arenas.withStatus s (loadArena b)) refl (choose m HS) (chosen m HS) ∙ ap (λ z. commitDrawn n b z (indexCode (choose m HS)) m h w (get b (arena held))) top
 
     -- the arena as loaded, with its own STATE
     loaded-top : (s : ℕ) → s ≤ 2 → get b (arena state) ≡ s → summary (loadArena b) ≡ withState s (recordOf b)
@@ -332,22 +332,22 @@ module _ (n : ℕ) (b : List ℕ) (hb : leb (words n) (length b) ≡ true) (few 
     by-state (suc (suc zero)) l e = rw e (off (loadArena b .status) _ (loaded-top 2 (omega arith) e))
     by-state (suc (suc (suc s))) l e = absurd (omega arith)
 
-    commit-fair : get b (arena state) ≤ 2
+    commit-valid : get b (arena state) ≤ 2
         → finish b (committedArena n h m b (loadArena b)) (commit n h m (loadArena b)) m w ≡ commitPlanned n b (recordOf b) (indexCode (choose m (loadHoles b 0 (get b (arena holes))))) m h w (get b (arena held))
     unfolding commit committedArena loadArena HS
-    commit-fair l = by-state (get b (arena state)) l refl
+    commit-valid l = by-state (get b (arena state)) l refl
 
 -- ---- a commit
-pub record FairRecord (n : ℕ) (b : List ℕ) : Type 0 where
+pub record ValidRecord (n : ℕ) (b : List ℕ) : Type 0 where
   pub state : get b (arena state) ≤ 2
   pub frontier : get b (arena frontier) ≤ n
   pub holes : get b (arena holes) ≤ holeSlots
   pub holePages : get b (arena holePages) ≤ holePagesMax
   pub held : get b (arena held) ≤ n
 
-pub fair-record : (n : ℕ) (b : List ℕ) → recordFair n b ≡ true → FairRecord n b
-unfolding recordFair
-fair-record n b e =
+pub valid-record : (n : ℕ) (b : List ℕ) → recordValid n b ≡ true → ValidRecord n b
+unfolding recordValid
+valid-record n b e =
     let e₁ = and-right (leb (get b (arena state)) 2) _ e in
     let e₂ = and-right (leb (get b (arena frontier)) n) _ e₁ in
     let e₃ = and-right (leb (get b (arena holes)) holeSlots) _ e₂ in
@@ -359,22 +359,22 @@ fair-record n b e =
       held = leb-true _ n (and-right (leb (get b (arena holePages)) holePagesMax) _ e₃);
     }
 
-pub planned-is : (b : List ℕ) (m : ℕ) → planned b m ≡ planAs (holesFair b) (indexCode (choose m (loadHoles b 0 (get b (arena holes)))))
-unfolding planned planOf holesFair
+pub planned-is : (b : List ℕ) (m : ℕ) → planned b m ≡ planAs (holesValid b) (indexCode (choose m (loadHoles b 0 (get b (arena holes)))))
+unfolding planned planOf holesValid
 planned-is b m = refl
 
 -- a hole in a commit's range is in a give's
-pub ends-of : (b : List ℕ) → holesFair b ≡ true → every (holeEndsFair (get b (arena frontier))) (loadHoles b 0 (get b (arena holes))) ≡ true
-unfolding holesFair
-ends-of b e = every-weaker (holeFair (get b (arena holePages)) (get b (arena frontier))) (holeEndsFair (get b (arena frontier))) (λ h. and-right (leb (h .pages) (get b (arena holePages))) _) (loadHoles b 0 (get b (arena holes))) e
+pub ends-of : (b : List ℕ) → holesValid b ≡ true → every (holeEndsValid (get b (arena frontier))) (loadHoles b 0 (get b (arena holes))) ≡ true
+unfolding holesValid
+ends-of b e = every-weaker (holeValid (get b (arena holePages)) (get b (arena frontier))) (holeEndsValid (get b (arena frontier))) (λ h. and-right (leb (h .pages) (get b (arena holePages))) _) (loadHoles b 0 (get b (arena holes))) e
 
 pub commit-acts : (n : ℕ) (b : List ℕ) → leb (words n) (length b) ≡ true → (h m w : ℕ) → commitActs n b h m w ≡ commitFor n b h m w
-unfolding commitActs commitRead commitFor commitFair HS
+unfolding commitActs commitRead commitFor commitValid HS
 commit-acts n b hb h m w =
-    by-cases (recordFair n b)
-    (λ e. let k = fair-record n b e in
-    by-cases (holesFair b)
-    (λ v. rw (e, planned-is b m, v) (sym (commit-fair n b hb (k .holes) m h w (get b (arena frontier)) (ends-of b v) (k .state))))
+    by-cases (recordValid n b)
+    (λ e. let k = valid-record n b e in
+    by-cases (holesValid b)
+    (λ v. rw (e, planned-is b m, v) (sym (commit-valid n b hb (k .holes) m h w (get b (arena frontier)) (ends-of b v) (k .state))))
     (λ v. rw (e, planned-is b m, v)))
     (λ e. rw e)
 
@@ -387,14 +387,14 @@ few-loaded : (b : List ℕ) → get b (arena holes) ≤ holeSlots → length (lo
 unfolding loadArena loadStore
 few-loaded b l = rw (loaded-length b 0 (get b (arena holes))) l
 
-fair-loaded : (b : List ℕ) → holesEndFair b ≡ true → every (holeEndsFair (get b (arena frontier))) (loadArena b .store .holes) ≡ true
-unfolding loadArena loadStore holesEndFair
-fair-loaded b e = e
+valid-loaded : (b : List ℕ) → holesEndValid b ≡ true → every (holeEndsValid (get b (arena frontier))) (loadArena b .store .holes) ≡ true
+unfolding loadArena loadStore holesEndValid
+valid-loaded b e = e
 
-pub give-acts : (n : ℕ) (b : List ℕ) → leb (words n) (length b) ≡ true → FairRecord n b → holesEndFair b ≡ true → (q m : ℕ) → given b q m ≡ giveActs b q m
+pub give-acts : (n : ℕ) (b : List ℕ) → leb (words n) (length b) ≡ true → ValidRecord n b → holesEndValid b ≡ true → (q m : ℕ) → given b q m ≡ giveActs b q m
 unfolding given giveActs givenWith
 give-acts n b hb k e q m =
-    let z = stands-stored b (give m q (loadArena b)) _ _ (give-stands n b hb m q (loadArena b) (loaded-here b) (few-loaded b (k .holes)) (get b (arena frontier)) (fair-loaded b e)) in
+    let z = stands-stored b (give m q (loadArena b)) _ _ (give-stands n b hb m q (loadArena b) (loaded-here b) (few-loaded b (k .holes)) (get b (arena frontier)) (valid-loaded b e)) in
     let y : storeArena b (give m q (loadArena b)) ≡ storeRecord (giveWords b (recordOf b) m q) (giveRecord b (recordOf b) m q)
     = z ∙ ap (λ w. storeRecord (giveWords b w m q) (giveRecord b w m q)) (stands-loaded b (k .state) .top) in
     rw y
@@ -409,7 +409,7 @@ grown-given : (b y : List ℕ) (e m : ℕ) (g : Arenas.Grown) → grownBook b y 
 unfolding grownBook committed
 grown-given b y e m g = refl
 
-module _ (n : ℕ) (b : List ℕ) (hb : leb (words n) (length b) ≡ true) (k : FairRecord n b) (h m : ℕ) where
+module _ (n : ℕ) (b : List ℕ) (hb : leb (words n) (length b) ≡ true) (k : ValidRecord n b) (h m : ℕ) where
   A : Arena
   A = Arenas.withFrontier (get b (arena frontier) + m) (loadArena b)
 
@@ -417,9 +417,9 @@ module _ (n : ℕ) (b : List ℕ) (hb : leb (words n) (length b) ≡ true) (k : 
   unfolding A loadArena
   stands-A = stands-frontier b (loadArena b) b (recordOf b) (stands-loaded b (k .state)) m
 
-  grows-at : get b (arena frontier) + m ≤ n → (commitGranted h ≡ false → holesEndFair b ≡ true) → GrowsAs n b h (get b (arena frontier)) m
+  grows-at : get b (arena frontier) + m ≤ n → (commitGranted h ≡ false → holesEndValid b ≡ true) → GrowsAs n b h (get b (arena frontier)) m
   unfolding growActs growWith fromFrontier settle grownArena settledArena Arenas.grow loadArena A
-  grows-at l fair =
+  grows-at l valid =
       let f = get b (arena frontier) in
       let few = few-loaded b (k .holes) in
       by-cases (commitGranted h)
@@ -428,7 +428,7 @@ module _ (n : ℕ) (b : List ℕ) (hb : leb (words n) (length b) ≡ true) (k : 
         book = rw (eq-eqb f f refl, le-leb (f + m) n l, t) (grown-given b _ f m _ ∙ ap (λ y. y .book) z);
         yes = rw (eq-eqb f f refl, le-leb (f + m) n l, t) (ap (λ y. isSome (y .run)) z);
       })
-      (λ t. let z = ends-fresh-given n b hb m (ownerCode direct) A b (advanced m (recordOf b)) stands-A few f (fair-loaded b (fair t)) f refl refl in
+      (λ t. let z = ends-fresh-given n b hb m (ownerCode direct) A b (advanced m (recordOf b)) stands-A few f (valid-loaded b (valid t)) f refl refl in
       record {
         book = rw (eq-eqb f f refl, le-leb (f + m) n l, t) (grown-given b _ f m _ ∙ ap (λ y. y .book) z);
         yes = rw (eq-eqb f f refl, le-leb (f + m) n l, t) (ap (λ y. isSome (y .run)) z);
@@ -450,11 +450,11 @@ module _ (n : ℕ) (b : List ℕ) (hb : leb (words n) (length b) ≡ true) (k : 
       let t = ne-eqb (get b (arena frontier)) e d in
       record { book = rw t (grown-given b _ e m _ ∙ ap (λ y. y .book) unmoved); yes = rw t refl }
 
-  pub grow-acts : (e : ℕ) → (commitGranted h ≡ false → get b (arena frontier) ≡ e → e + m ≤ n → holesEndFair b ≡ true) → GrowsAs n b h e m
-  grow-acts e fair =
+  pub grow-acts : (e : ℕ) → (commitGranted h ≡ false → get b (arena frontier) ≡ e → e + m ≤ n → holesEndValid b ≡ true) → GrowsAs n b h e m
+  grow-acts e valid =
       elim (ℕ-discrete (get b (arena frontier)) e) [
         | yes z ↦ subst (λ y. GrowsAs n b h y m) z (elim (decLe (get b (arena frontier) + m) n) [
-          | yes l ↦ grows-at l (λ t. fair t z (omega (arith, z)))
+          | yes l ↦ grows-at l (λ t. valid t z (omega (arith, z)))
           | no l ↦ grows-full (omega arith)
         ])
         | no d ↦ grows-elsewhere e d

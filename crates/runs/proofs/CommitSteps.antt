@@ -14,31 +14,31 @@ use Rattle.words.specs.Limits.{maxPages, holeSlots}
 use Rattle.words.specs.Host.{commitGranted}
 use Rattle.fields.specs.Field.{arena, held, get, words}
 use Rattle.runs.specs.declared.Arena.{Arena}
-use Rattle.runs.specs.declared.Plan.{Plan}
+use Rattle.runs.specs.declared.Choice.{Choice}
 use Rattle.runs.specs.declared.Commit.{Commit}
 use Rattle.runs.specs.declared.Commit.the-variants.{Refused, Nothing}
 use Rattle.arena.specs.Load.{loadHole, loadHoles}
 use Rattle.runs.specs.way.Record.{recordOf, storeRecord}
-use Rattle.arena.specs.Fair.{recordFair}
+use Rattle.arena.specs.Valid.{recordValid}
 use Rattle.runs.specs.way.Plan.{planAs, planOf}
 use Rattle.arena.specs.Calls.{commitRefused, commitFor}
 use Rattle.runs.specs.way.Act.{withState, endNone, endRun, settle, fromFrontier, holeDrawn, commitDrawn, nextState, commitPlanned, planned, commitRead, commitActs, growWith}
-use Rattle.runs.specs.way.Asks.{RecordIn, HoleIn, PlanIn, EndsIn, RequestIn, BookIn}
+use Rattle.runs.specs.way.Pre.{RecordIn, HoleIn, PlanIn, EndsIn, RequestIn, BookIn}
 use Rattle.runs.specs.way.Found.{found, hasRun, Finds}
 use Rattle.runs.specs.Answer.{Answers}
-use Rattle.runs.proofs.Acts.{fair-record, planned-is, ends-of, commit-acts}
+use Rattle.runs.proofs.Acts.{valid-record, planned-is, ends-of, commit-acts}
 use Rattle.runs.proofs.PlanLaws.{plan-fits}
 
 -- ---- the record that was loaded
-pub loaded-record : (n : ℕ) (b : List ℕ) (a : Arena) → recordFair n b ≡ true → a ≡ recordOf b → RecordIn n a
+pub loaded-record : (n : ℕ) (b : List ℕ) (a : Arena) → recordValid n b ≡ true → a ≡ recordOf b → RecordIn n a
 loaded-record n b a t f =
-    let z = fair-record n b t in
+    let z = valid-record n b t in
     subst (λ y. RecordIn n y) (sym f) (record { moved = z .frontier; few = z .holes; short = z .holePages })
 
-pub request-in : (n : ℕ) (b : List ℕ) (h m d w : ℕ) → BookIn b n → recordFair n b ≡ true → m ≤ maxPages + 1 → d ≡ get b (arena held)
+pub request-in : (n : ℕ) (b : List ℕ) (h m d w : ℕ) → BookIn b n → recordValid n b ≡ true → m ≤ maxPages + 1 → d ≡ get b (arena held)
     → RequestIn b (record { size = n; pages = m; host = h; owner = w; held = d })
 request-in n b h m d w k t l f =
-    let z = fair-record n b t .held in
+    let z = valid-record n b t .held in
     let y = k .small in
     record { long = k .long; small = k .small; fits = l; owned = omega arith }
 
@@ -71,11 +71,11 @@ planned-runs n b a code m w d =
 
 -- ---- what a commit finds
 module _ (n : ℕ) (b : List ℕ) (m : ℕ) where
-  module _ (t : Bool) (e : t ≡ recordFair n b) where
+  module _ (t : Bool) (e : t ≡ recordValid n b) where
     pub find-few : (a : Arena) → t ≡ true → a ≡ recordOf b → a .count ≤ holeSlots
     find-few a v f = loaded-record n b a (sym e ∙ v) f .few
 
-    pub find-on : (a : Arena) (p : Plan) → t ≡ true → a ≡ recordOf b → p ≡ planOf (loadHoles b 0 (a .count)) (a .total) (a .frontier) m → p ≡ found n b m
+    pub find-on : (a : Arena) (p : Choice) → t ≡ true → a ≡ recordOf b → p ≡ planOf (loadHoles b 0 (a .count)) (a .total) (a .frontier) m → p ≡ found n b m
     unfolding found planned
     find-on a p v f g = g ∙ ap (λ y. planOf (loadHoles b 0 (y .count)) (y .total) (y .frontier) m) f ∙ rw (← e, v)
 
@@ -84,51 +84,51 @@ module _ (n : ℕ) (b : List ℕ) (m : ℕ) where
     find-off v = rw (← e, v)
 
   -- the commit goes by it
-  found-commits : BookIn b n → (h w : ℕ) → commitFor n b h m w ≡ cond (found n b m .fair) (commitPlanned n b (recordOf b) (found n b m .code) m h w (get b (arena held))) (commitRefused b 13)
+  found-commits : BookIn b n → (h w : ℕ) → commitFor n b h m w ≡ cond (found n b m .valid) (commitPlanned n b (recordOf b) (found n b m .code) m h w (get b (arena held))) (commitRefused b 13)
   unfolding commitActs commitRead found
-  found-commits k h w = sym (commit-acts n b (le-leb (words n) (length b) (k .long)) h m w) ∙ by-cases (recordFair n b) (λ v. rw v) (λ v. rw v)
+  found-commits k h w = sym (commit-acts n b (le-leb (words n) (length b) (k .long)) h m w) ∙ by-cases (recordValid n b) (λ v. rw v) (λ v. rw v)
 
-  module _ (p : Plan) (e : p ≡ found n b m) where
-    pub commits-off : (h w : ℕ) → BookIn b n → not (p .fair) ≡ true → Answers (Refused 13) b (commitFor n b h m w)
-    commits-off h w k t = rw (found-commits k h w, ← e, not-true (p .fair) t) (record { answer = refl; book = refl })
+  module _ (p : Choice) (e : p ≡ found n b m) where
+    pub commits-off : (h w : ℕ) → BookIn b n → not (p .valid) ≡ true → Answers (Refused 13) b (commitFor n b h m w)
+    commits-off h w k t = rw (found-commits k h w, ← e, not-true (p .valid) t) (record { answer = refl; book = refl })
 
-    pub would-not : BookIn b n → not (p .fair) ≡ true → Finds false n b m
-    would-not k t w = rw (found-commits k 15 w, ← e, not-true (p .fair) t)
+    pub would-not : BookIn b n → not (p .valid) ≡ true → Finds false n b m
+    would-not k t w = rw (found-commits k 15 w, ← e, not-true (p .valid) t)
 
-    module _ (t : not (p .fair) ≡ false) (a : Arena) (f : a ≡ recordOf b) where
-      fair : p .fair ≡ true
-      fair = not-false (p .fair) t
+    module _ (t : not (p .valid) ≡ false) (a : Arena) (f : a ≡ recordOf b) where
+      valid : p .valid ≡ true
+      valid = not-false (p .valid) t
 
-      found-fair : (recordFair n b ≡ true) × (p ≡ planned b m)
+      found-valid : (recordValid n b ≡ true) × (p ≡ planned b m)
       unfolding found
-      found-fair =
-          by-cases (recordFair n b)
+      found-valid =
+          by-cases (recordValid n b)
           (λ v. (v, rw v at e))
-          (λ v. absurd (true≢false (sym fair ∙ ap (λ z. z .fair) (rw v at e))))
+          (λ v. absurd (true≢false (sym valid ∙ ap (λ z. z .valid) (rw v at e))))
 
       pub found-record : RecordIn n a
-      found-record = loaded-record n b a (found-fair .0) f
+      found-record = loaded-record n b a (found-valid .0) f
 
       pub found-sum : BookIn b n → m ≤ maxPages + 1 → Fits w32 (a .frontier + m)
       found-sum k l = let z = found-record .moved in let y = k .small in record { fits = omega arith }
 
       pub found-request : (h d w : ℕ) → BookIn b n → m ≤ maxPages + 1 → d ≡ get b (arena held) → RequestIn b (record { size = n; pages = m; host = h; owner = w; held = d })
-      found-request h d w k l g = request-in n b h m d w k (found-fair .0) l g
+      found-request h d w k l g = request-in n b h m d w k (found-valid .0) l g
 
       pub found-in : PlanIn b a (p .code) m
       found-in z =
-          let k = plan-fits b m p (found-fair .1) fair z in
+          let k = plan-fits b m p (found-valid .1) valid z in
           subst (λ y. HoleIn y (p .code - 1) (loadHole b (p .code - 1)) m) (sym f) (record { stored = k .stored; enough = k .enough; within = k .within; ends = k .ends })
 
       pub found-ends : EndsIn b a
-      found-ends = subst (λ y. EndsIn b y) (sym f) (ends-of b (sym (ap (λ z. z .fair) (found-fair .1 ∙ planned-is b m)) ∙ fair))
+      found-ends = subst (λ y. EndsIn b y) (sym f) (ends-of b (sym (ap (λ z. z .valid) (found-valid .1 ∙ planned-is b m)) ∙ valid))
 
       pub commits-on : (h w d : ℕ) (s : Commit) (x : List ℕ) → BookIn b n → d ≡ get b (arena held) → Answers s x (commitPlanned n b a (p .code) m h w d) → Answers s x (commitFor n b h m w)
-      commits-on h w d s x k g y = rw (found-commits k h w, ← e, fair, ← f, ← g) y
+      commits-on h w d s x k g y = rw (found-commits k h w, ← e, valid, ← f, ← g) y
 
       -- it answers a run where the arena is not disabled, and there is a hole, or room at the frontier
       would : BookIn b n → (w : ℕ) → hasRun (commitFor n b 15 m w) ≡ cond (eqb (a .state) 2) false (cond (eqb (p .code) 0) (leb (a .frontier + m) n) true)
-      would k w = rw (found-commits k 15 w, ← e, fair, ← f) (planned-runs n b a (p .code) m w (get b (arena held)))
+      would k w = rw (found-commits k 15 w, ← e, valid, ← f) (planned-runs n b a (p .code) m w (get b (arena held)))
 
       pub would-off : BookIn b n → a .state ≡ 2 → Finds false n b m
       would-off k u w = sym (would k w ∙ rw u)

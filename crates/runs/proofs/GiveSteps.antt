@@ -14,57 +14,57 @@ use Rattle.arena.specs.Owners.{ownerCode}
 use Rattle.fields.specs.Field.{arena, page, owner, frontier, holes, held, get, put}
 use Rattle.runs.specs.declared.Arena.{Arena}
 use Rattle.runs.specs.way.Record.{recordOf}
-use Rattle.arena.specs.Fair.{recordFair, holesEndFair, giveFair, growGives, growFair}
+use Rattle.arena.specs.Valid.{recordValid, holesEndValid, giveValid, growGives, growValid}
 use Rattle.arena.specs.Load.{loadArena}
 use Rattle.arena.specs.Calls.{given, everyDirect, heldDirect}
 use Rattle.runs.specs.way.Act.{endGiven, givenWith, giveActs}
-use Rattle.runs.specs.way.Asks.{StoreIn, GiveIn, BackIn}
-use Rattle.runs.proofs.Acts.{FairRecord, fair-record, give-acts}
+use Rattle.runs.specs.way.Pre.{StoreIn, GiveIn, BackIn}
+use Rattle.runs.proofs.Acts.{ValidRecord, valid-record, give-acts}
 
 -- ---- giving
 module _ (n : ℕ) (b : List ℕ) (m : ℕ) where
-  pub fair-give : (t : Bool) (d : ℕ) (r : Bool) → t ≡ recordFair n b → t ≡ true → d ≡ get b (arena held) → m ≤ d → r ≡ holesEndFair b → r ≡ giveFair n b m
-  unfolding giveFair
-  fair-give t d r e v f l g = rw (← e, v, ← f, le-leb m d l) g
+  pub valid-give : (t : Bool) (d : ℕ) (r : Bool) → t ≡ recordValid n b → t ≡ true → d ≡ get b (arena held) → m ≤ d → r ≡ holesEndValid b → r ≡ giveValid n b m
+  unfolding giveValid
+  valid-give t d r e v f l g = rw (← e, v, ← f, le-leb m d l) g
 
-  pub short-give : (t : Bool) (d : ℕ) → t ≡ recordFair n b → t ≡ true → d ≡ get b (arena held) → d < m → false ≡ giveFair n b m
-  unfolding giveFair
+  pub short-give : (t : Bool) (d : ℕ) → t ≡ recordValid n b → t ≡ true → d ≡ get b (arena held) → d < m → false ≡ giveValid n b m
+  unfolding giveValid
   short-give t d e v f l = rw (← e, v, ← f, lt-leb m d l)
 
-  pub told-few : (t : Bool) → t ≡ recordFair n b → t ≡ true → get b (arena holes) ≤ holeSlots
-  told-few t e v = fair-record n b (sym e ∙ v) .holes
+  pub told-few : (t : Bool) → t ≡ recordValid n b → t ≡ true → get b (arena holes) ≤ holeSlots
+  told-few t e v = valid-record n b (sym e ∙ v) .holes
 
-  pub unfair-give : (t : Bool) → t ≡ recordFair n b → t ≡ false → false ≡ giveFair n b m
-  unfolding giveFair
-  unfair-give t e v = rw (← e, v)
+  pub invalid-give : (t : Bool) → t ≡ recordValid n b → t ≡ false → false ≡ giveValid n b m
+  unfolding giveValid
+  invalid-give t e v = rw (← e, v)
 
 module _ (b : List ℕ) (n : ℕ) (a : Arena) (d q m : ℕ) (k : GiveIn b n q m) (e : a ≡ recordOf b) (f : d ≡ get b (arena held)) where
-  fair : FairRecord n b
-  unfolding giveFair
-  fair = fair-record n b (and-left _ _ (k .fair))
+  valid : ValidRecord n b
+  unfolding giveValid
+  valid = valid-record n b (and-left _ _ (k .valid))
 
   pub enough : m ≤ d
-  unfolding giveFair
-  enough = let z = leb-true m (get b (arena held)) (and-left _ _ (and-right (recordFair n b) _ (k .fair))) in omega arith
+  unfolding giveValid
+  enough = let z = leb-true m (get b (arena held)) (and-left _ _ (and-right (recordValid n b) _ (k .valid))) in omega arith
 
-  ends : holesEndFair b ≡ true
-  unfolding giveFair
-  ends = and-right (leb m (get b (arena held))) _ (and-right (recordFair n b) _ (k .fair))
+  ends : holesEndValid b ≡ true
+  unfolding giveValid
+  ends = and-right (leb m (get b (arena held))) _ (and-right (recordValid n b) _ (k .valid))
 
   pub back-in : BackIn b a (record { first = q; pages = m; clear = true })
-  unfolding holesEndFair
+  unfolding holesEndValid
   back-in =
       let l₁ = k .long in
       let l₂ = k .small in
       let l₃ = k .inside in
-      let z = fair in
+      let z = valid in
       let s : StoreIn b (recordOf b) q m = record { long = omega arith; few = z .holes; short = z .holePages; low = let x = z .frontier in omega arith; near = omega arith; ends = ends } in
       record { long = omega arith; store = subst (λ y. StoreIn b y q m) (sym e) s }
 
   pub given-is : (x y : List ℕ) → x ≡ endGiven b a m q true .book → y ≡ put x (arena held) (d - m) → y ≡ given b q m
   unfolding giveActs givenWith endGiven
   given-is x y g o =
-      o ∙ ap (λ z. put z (arena held) (d - m)) g ∙ ap (λ y. givenWith b y d q m) e ∙ ap (λ y. givenWith b (recordOf b) y q m) f ∙ sym (give-acts n b (le-leb _ _ (k .long)) fair ends q m)
+      o ∙ ap (λ z. put z (arena held) (d - m)) g ∙ ap (λ y. givenWith b y d q m) e ∙ ap (λ y. givenWith b (recordOf b) y q m) f ∙ sym (give-acts n b (le-leb _ _ (k .long)) valid ends q m)
 
 -- ---- the pages of a run, the last one first
 pub record Looking (b : List ℕ) (q m left : ℕ) : Type 0 where
@@ -114,18 +114,18 @@ module _ (n : ℕ) (b : List ℕ) (h e m : ℕ) where
     unfolding growGives loadArena
     gives-there s = rw (refused, ← g, eq-eqb f e s)
 
-  module _ (t : Bool) (r : t ≡ recordFair n b) where
-    pub grow-unfair : t ≡ false → false ≡ growFair n b h e m
-    unfolding growFair
-    grow-unfair v = rw (← r, v)
+  module _ (t : Bool) (r : t ≡ recordValid n b) where
+    pub grow-invalid : t ≡ false → false ≡ growValid n b h e m
+    unfolding growValid
+    grow-invalid v = rw (← r, v)
 
     module _ (v : t ≡ true) (g : Bool) (i : g ≡ growGives n b h e m) where
-      pub grow-holes : (o : Bool) → g ≡ true → o ≡ holesEndFair b → o ≡ growFair n b h e m
-      unfolding growFair
+      pub grow-holes : (o : Bool) → g ≡ true → o ≡ holesEndValid b → o ≡ growValid n b h e m
+      unfolding growValid
       grow-holes o w f = rw (← r, v, ← i, w) f
 
-      pub grow-record : g ≡ false → true ≡ growFair n b h e m
-      unfolding growFair
+      pub grow-record : g ≡ false → true ≡ growValid n b h e m
+      unfolding growValid
       grow-record w = rw (← r, v, ← i, w)
 
 -- ---- number 12

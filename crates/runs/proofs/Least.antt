@@ -13,10 +13,10 @@ use Rattle.facts.specs.Lists.{every}
 use Rattle.facts.proofs.Bools.{by-cases, and-left, and-right}
 use Rattle.model.specs.declared.Hole.{Hole}
 use Rattle.model.specs.HoleStore.{goesBefore, Fit, fitAt, nearer, leastFit, indexOf}
-use Rattle.arena.specs.Fair.{holeFair}
+use Rattle.arena.specs.Valid.{holeValid}
 use Rattle.runs.specs.declared.holes.Best.{Best}
 use Rattle.runs.specs.way.Plan.{indexCode, planAs, planOf}
-use Rattle.runs.specs.way.Scan.{over, key, noBest, betterOf, weighed, bestOf, codeAt}
+use Rattle.runs.specs.way.Scan.{over, key, noBest, betterOf, foldHoles, bestOf, codeAt}
 
 -- ---- one hole
 module _ (need i k : ℕ) (h : Hole) (b : Best) (e : k ≡ key need h) where
@@ -132,15 +132,15 @@ module _ (need : ℕ) (need-fits : need < 2 ^ 32) where
       simp (lt-leb (2 ^ 32) (b .key / 2 ^ 32 + need) (code-low need (f .hole .pages) (f .hole .first) need-fits (says .3) (says .2) (b .key) (says .0))) (omega (arith, says .1))
 
   module _ (total f : ℕ) (f-fits : f < 2 ^ 32) where
-    short-of : (h : Hole) → holeFair total f h ≡ true → h .first + h .pages < 2 ^ 32
+    short-of : (h : Hole) → holeValid total f h ≡ true → h .first + h .pages < 2 ^ 32
     short-of h e = omega (arith, leb-true (h .first + h .pages) f (and-right (leb 1 (h .pages)) _ (and-right (leb (h .pages) total) _ e)))
 
-    says-all : (hs : List Hole) (i : ℕ) → every (holeFair total f) hs ≡ true → Says i (bestOf need i hs noBest) (leastFit need hs)
-    unfolding weighed leastFit
+    says-all : (hs : List Hole) (i : ℕ) → every (holeValid total f) hs ≡ true → Says i (bestOf need i hs noBest) (leastFit need hs)
+    unfolding foldHoles leastFit
     says-all [] i e = inr refl
     says-all (h ∷ hs) i e =
-        says-nearer i h (bestOf need (suc i) hs noBest) (leastFit need hs) (short-of h (and-left (holeFair total f h) _ e)) (says-all hs (suc i) (and-right (holeFair total f h) _ e))
+        says-nearer i h (bestOf need (suc i) hs noBest) (leastFit need hs) (short-of h (and-left (holeValid total f h) _ e)) (says-all hs (suc i) (and-right (holeValid total f h) _ e))
 
-    pub plan-is : (hs : List Hole) → planAs (every (holeFair total f) hs) (codeAt need (bestOf need 0 hs noBest)) ≡ planOf hs total f need
+    pub plan-is : (hs : List Hole) → planAs (every (holeValid total f) hs) (codeAt need (bestOf need 0 hs noBest)) ≡ planOf hs total f need
     unfolding planOf
-    plan-is hs = by-cases (every (holeFair total f) hs) (λ e. rw e (ap (planAs true) (says-code (bestOf need 0 hs noBest) (leastFit need hs) (says-all hs 0 e)))) (λ e. rw e)
+    plan-is hs = by-cases (every (holeValid total f) hs) (λ e. rw e (ap (planAs true) (says-code (bestOf need 0 hs noBest) (leastFit need hs) (says-all hs 0 e)))) (λ e. rw e)

@@ -1,5 +1,5 @@
 pub mod StoreLaws
-pub mod EndsFair
+pub mod EndsValid
 mod Joins
 pub mod Acts
 pub mod PlanLaws

@@ -19,17 +19,17 @@ use Rattle.model.specs.HoleStore.{holeAt, choose}
 use Rattle.model.specs.BestFit.{LeastAt}
 use Rattle.model.proofs.StoreLaws.{Chosen, at-hole, no-hole, chosen}
 use Rattle.runs.specs.declared.Arena.{Arena}
-use Rattle.runs.specs.declared.Plan.{Plan}
+use Rattle.runs.specs.declared.Choice.{Choice}
 use Rattle.arena.specs.Load.{loadHole, loadHoles}
 use Rattle.runs.specs.way.Record.{recordOf}
-use Rattle.arena.specs.Fair.{recordFair, holeFair, holesFair, growGives, growFair}
+use Rattle.arena.specs.Valid.{recordValid, holeValid, holesValid, growGives, growValid}
 use Rattle.runs.specs.way.Plan.{indexCode}
 use Rattle.arena.specs.Calls.{commitRefused, commitFor}
 use Rattle.runs.specs.way.Act.{endNone, fromFrontier, commitDrawn, nextState, withState, commitPlanned, planned, commitRead, commitActs, growWith, growActs, clamped}
 use Rattle.arena.proofs.Frames.{loaded-length}
 use Rattle.runs.proofs.StoreLaws.{loaded-at}
-use Rattle.runs.proofs.EndsFair.{every-at}
-use Rattle.runs.proofs.Acts.{planned-is, fair-record, commit-acts}
+use Rattle.runs.proofs.EndsValid.{every-at}
+use Rattle.runs.proofs.Acts.{planned-is, valid-record, commit-acts}
 
 -- hole i has m pages or more, and is within the hole pages and the frontier
 pub record HoleFits (b : List ℕ) (m i : ℕ) : Type 0 where
@@ -38,17 +38,17 @@ pub record HoleFits (b : List ℕ) (m i : ℕ) : Type 0 where
   pub within : loadHole b i .pages ≤ get b (arena holePages)
   pub ends : loadHole b i .first + loadHole b i .pages ≤ get b (arena frontier)
 
-module _ (b : List ℕ) (m : ℕ) (fair : holesFair b ≡ true) where
+module _ (b : List ℕ) (m : ℕ) (valid : holesValid b ≡ true) where
   HS : List Hole
   HS = loadHoles b 0 (get b (arena holes))
 
   fits-at : (i : ℕ) → LeastAt m HS i → HoleFits b m i
-  unfolding HS holesFair
+  unfolding HS holesValid
   fits-at i l =
       let here : i < get b (arena holes) = omega (arith, l .inside, loaded-length b 0 (get b (arena holes))) in
       let e : 0 + i ≡ i = omega arith in
       let x : holeAt i HS ≡ loadHole b i = loaded-at b 0 (get b (arena holes)) i here ∙ rw e in
-      let z = rw x at (every-at (holeFair (get b (arena holePages)) (get b (arena frontier))) HS i fair (l .inside)) in
+      let z = rw x at (every-at (holeValid (get b (arena holePages)) (get b (arena frontier))) HS i valid (l .inside)) in
       let z₁ = and-right (leb (loadHole b i .pages) (get b (arena holePages))) _ z in
       record {
         stored = here;
@@ -74,12 +74,12 @@ module _ (b : List ℕ) (m : ℕ) (fair : holesFair b ≡ true) where
   unfolding HS
   none-chosen l = none-of (choose m HS) (chosen m HS) l
 
-pub plan-fits : (b : List ℕ) (m : ℕ) (p : Plan) → p ≡ planned b m → p .fair ≡ true → (p .code ≡ 0 → ⊥) → HoleFits b m (p .code - 1)
+pub plan-fits : (b : List ℕ) (m : ℕ) (p : Choice) → p ≡ planned b m → p .valid ≡ true → (p .code ≡ 0 → ⊥) → HoleFits b m (p .code - 1)
 plan-fits b m p e f d =
     let is = e ∙ planned-is b m in
-    let fair : holesFair b ≡ true = sym (ap (λ z. z .fair) is) ∙ f in
-    let c : p .code ≡ indexCode (choose m (loadHoles b 0 (get b (arena holes)))) = ap (λ z. z .code) is ∙ rw fair in
-    rw c (fits-chosen b m fair (λ z. d (c ∙ z)))
+    let valid : holesValid b ≡ true = sym (ap (λ z. z .valid) is) ∙ f in
+    let c : p .code ≡ indexCode (choose m (loadHoles b 0 (get b (arena holes)))) = ap (λ z. z .code) is ∙ rw valid in
+    rw c (fits-chosen b m valid (λ z. d (c ∙ z)))
 
 -- ---- a commit of more pages than any arena has
 module _ (n : ℕ) (b : List ℕ) (h w m : ℕ) (small : n ≤ maxPages) (large : maxPages + 1 ≤ m) where
@@ -90,12 +90,12 @@ module _ (n : ℕ) (b : List ℕ) (h w m : ℕ) (small : n ≤ maxPages) (large 
       (λ t. rw t)
       (λ t. rw (t, lt-leb (a .frontier + m) n (omega arith)))
 
-  long-acts : commitActs n b h m w ≡ cond (recordFair n b) (cond (holesFair b) (endNone b (withState (nextState (recordOf b .state) h) (recordOf b))) (commitRefused b 13)) (commitRefused b 13)
+  long-acts : commitActs n b h m w ≡ cond (recordValid n b) (cond (holesValid b) (endNone b (withState (nextState (recordOf b .state) h) (recordOf b))) (commitRefused b 13)) (commitRefused b 13)
   unfolding commitActs commitRead
   long-acts =
-      by-cases (recordFair n b)
-      (λ e. let k = fair-record n b e in
-      by-cases (holesFair b)
+      by-cases (recordValid n b)
+      (λ e. let k = valid-record n b e in
+      by-cases (holesValid b)
       (λ v. rw (e, planned-is b m, v, none-chosen b m v (let z = k .holePages in omega arith)) (long-planned (recordOf b)))
       (λ v. rw (e, planned-is b m, v)))
       (λ e. rw e)
@@ -128,8 +128,8 @@ long-gives : (n : ℕ) (b : List ℕ) (h e m : ℕ) → n ≤ maxPages → maxPa
 unfolding growGives
 long-gives n b h e m l k = simp (lt-leb (e + m) n (omega arith), and-no)
 
-pub clamp-growth : (n : ℕ) (b : List ℕ) → n ≤ maxPages → (h e m : ℕ) → growFair n b h e (clamped m) ≡ growFair n b h e m
-unfolding clamped growFair
+pub clamp-growth : (n : ℕ) (b : List ℕ) → n ≤ maxPages → (h e m : ℕ) → growValid n b h e (clamped m) ≡ growValid n b h e m
+unfolding clamped growValid
 clamp-growth n b l h e m =
     by-cases (leb m maxPages)
     (λ t. rw t)

@@ -16,12 +16,12 @@ use Rattle.fields.specs.Field as Field
 use Rattle.fields.specs.Field.{arena, page, owner, state, frontier, holes, holePages, held, pages, get, put}
 use Rattle.fields.proofs.Laws.{length-put}
 use Rattle.runs.specs.declared.Arena.{Arena}
-use Rattle.runs.specs.declared.holes.Beside.{Beside}
+use Rattle.runs.specs.declared.holes.Neighbours.{Neighbours}
 use Rattle.runs.specs.declared.record.Gain.{Gain}
 use Rattle.runs.specs.way.Change.{gainedBy, gains, lost}
 use Rattle.runs.specs.way.Record.{abandoning}
 use Rattle.runs.specs.way.Plan.{indexCode, neighboursOf}
-use Rattle.arena.specs.Fair.{recordFair, holeEndsFair, holesEndFair}
+use Rattle.arena.specs.Valid.{recordValid, holeEndsValid, holesEndValid}
 use Rattle.arena.specs.Owners.{own}
 use Rattle.arena.specs.Load.{loadHole, loadHoles}
 use Rattle.arena.specs.Store.{storeHole}
@@ -31,31 +31,31 @@ use Rattle.model.specs.HoleStore.{hole, holeAt, endsAt, startsAt, holeBefore, h
 use Rattle.model.proofs.Placing.{Found, found, not-found, finds}
 use Rattle.runs.specs.way.Act.{bothWords, placeWords, placeRecord, Places, edges, touching, giveWords, giveRecord, Gives}
 use Rattle.runs.proofs.StoreLaws.{loaded-at}
-use Rattle.runs.proofs.EndsFair.{ends-at}
-use Rattle.runs.specs.way.Asks.{StoreIn, SlotIn, StoredIn, TouchIn}
+use Rattle.runs.proofs.EndsValid.{ends-at}
+use Rattle.runs.specs.way.Pre.{StoreIn, SlotIn, StoredIn, TouchIn}
 
 -- ---- the record's test: one failing word is enough
 module _ (n : ℕ) (b : List ℕ) where
-  pub no-state : (s : ℕ) → s ≡ get b (arena state) → 2 < s → false ≡ recordFair n b
-  unfolding recordFair
+  pub no-state : (s : ℕ) → s ≡ get b (arena state) → 2 < s → false ≡ recordValid n b
+  unfolding recordValid
   no-state s e l = rw (← e, lt-leb s 2 l)
 
-  pub no-frontier : (f : ℕ) → f ≡ get b (arena frontier) → n < f → false ≡ recordFair n b
-  unfolding recordFair
+  pub no-frontier : (f : ℕ) → f ≡ get b (arena frontier) → n < f → false ≡ recordValid n b
+  unfolding recordValid
   no-frontier f e l = simp (← e, lt-leb f n l, and-no)
 
-  pub no-holes : (k : ℕ) → k ≡ get b (arena holes) → holeSlots < k → false ≡ recordFair n b
-  unfolding recordFair
+  pub no-holes : (k : ℕ) → k ≡ get b (arena holes) → holeSlots < k → false ≡ recordValid n b
+  unfolding recordValid
   no-holes k e l = simp (← e, lt-leb k holeSlots l, and-no)
 
-  pub no-pages : (t : ℕ) → t ≡ get b (arena holePages) → holePagesMax < t → false ≡ recordFair n b
-  unfolding recordFair
+  pub no-pages : (t : ℕ) → t ≡ get b (arena holePages) → holePagesMax < t → false ≡ recordValid n b
+  unfolding recordValid
   no-pages t e l = simp (← e, lt-leb t holePagesMax l, and-no)
 
-  pub all-fair : (s f k t d : ℕ) → s ≡ get b (arena state) → s ≤ 2 → f ≡ get b (arena frontier) → f ≤ n → k ≡ get b (arena holes) → k ≤ holeSlots
-      → t ≡ get b (arena holePages) → t ≤ holePagesMax → d ≡ get b (arena held) → leb d n ≡ recordFair n b
-  unfolding recordFair
-  all-fair s f k t d e₁ l₁ e₂ l₂ e₃ l₃ e₄ l₄ e₅ =
+  pub all-valid : (s f k t d : ℕ) → s ≡ get b (arena state) → s ≤ 2 → f ≡ get b (arena frontier) → f ≤ n → k ≡ get b (arena holes) → k ≤ holeSlots
+      → t ≡ get b (arena holePages) → t ≤ holePagesMax → d ≡ get b (arena held) → leb d n ≡ recordValid n b
+  unfolding recordValid
+  all-valid s f k t d e₁ l₁ e₂ l₂ e₃ l₃ e₄ l₄ e₅ =
       rw (← e₁, ← e₂, ← e₃, ← e₄, ← e₅, le-leb s 2 l₁, le-leb f n l₂, le-leb k holeSlots l₃, le-leb t holePagesMax l₄)
 
 -- ---- owners: what is left to write comes to what was asked
@@ -91,9 +91,9 @@ module _ (b₀ : List ℕ) (first pages w : ℕ) where
   owns-done b p left k l = let z : left ≡ 0 = omega arith in none w b p left z ∙ k .rest
 
 -- ---- the holes' test
-pub told-fair : (b : List ℕ) (f count : ℕ) → f ≡ get b (arena frontier) → count ≡ get b (arena holes) → (t : Bool) → t ≡ every (holeEndsFair f) (loadHoles b 0 count) → t ≡ holesEndFair b
-unfolding holesEndFair
-told-fair b f count e d t g = rw (← e, ← d) g
+pub told-valid : (b : List ℕ) (f count : ℕ) → f ≡ get b (arena frontier) → count ≡ get b (arena holes) → (t : Bool) → t ≡ every (holeEndsValid f) (loadHoles b 0 count) → t ≡ holesEndValid b
+unfolding holesEndValid
+told-valid b f count e d t g = rw (← e, ← d) g
 
 -- ---- a run placed among the holes, by the codes c and d of those that it touches
 module _ (b : List ℕ) (a : Arena) (m q : ℕ) where
@@ -165,7 +165,7 @@ module _ (b : List ℕ) (a : Arena) (m q : ℕ) where
   pub slot-in : StoreIn b a q m → SlotIn b a m
   slot-in s = record { long = s .long; few = s .few; short = s .short; near = let z = s .near in omega arith }
 
-  module _ (t : Beside) (e : t ≡ neighboursOf (loadHoles b 0 (a .count)) (edges m q)) where
+  module _ (t : Neighbours) (e : t ≡ neighboursOf (loadHoles b 0 (a .count)) (edges m q)) where
     pub gives-placed : (x : List ℕ) (g : Gain) → a .total + m ≤ holePagesMax → Places b a m q (t .before) (t .after) x g → Gives b a m q x g
     unfolding giveWords giveRecord touching
     gives-placed x g l k =

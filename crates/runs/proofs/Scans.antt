@@ -3,7 +3,7 @@
 --     Sought     what a scan looks for: what is wanted and what is found, as types, and the function that weighs one hole
 --     least, touching    what a commit looks for, and what a give
 --     scanned, lent-whole    a function with the code of a scan, or of one that lends it a part of four, meets its contract
-use Rattle.runs.proofs.Walk.{_≡_, refl, ap, _∙_, ℕ, _+_, _-_, _<_, _≤_, _^_, arith, Bool, true, false, List, [], _∷_, ltb, length, getD, URA, fullShare, Ty, named, imm, w32, w64, tyInt, tyBool, tyRef, Val, vbool, vint, SProp, ent, id⊢, Lft, Share, Fml, ftrue, fat, froom, fdies, flft, ltb-true, ltb-false, Memory, Routine, afterTurn, Heap, Env, WpFn, Tables, Atoms, Fun, Given, Item, Sq, runs, atRet, ‵, _⊛_, ⋆, _$_, _∵_, !, qed, by, move, rewrite, fsplit, fjoin, suffices, frame, done, look, init, store, forget, stop, from, load, lit, of-opd, un, bin, and-then, no-more, first, blocks, stays, leaves-loop, exec, assigns, assigns-last, land, returns, enter, alloc1, alloc0, params1, pass1, pass0, free1, free0, again, fmOf, RattleType, owns, Is, pointee, mem, u32, RefT, now, sliceTy, ShrSlice, shr-slice-lawful, shr-slice-copy, owned, Args, Vals, onEntry, Meets, says, needs, arg, holds, asks, asks-lent, calls-plain, calls-lent, by-cases, Takens, Ends, ends, number, aHole, byValue, lent, machine, Lent, sym, subst, take, erased, tyArray, GName, flent, raw, some, later, keep, drop, use1, use2, split, pick, feqI, await, agg, addr, arr-parts, lft-new, lft-end, shares, Array, array-lawful, sliceVal, Room, nothing, asks-new, calls, lentAt, holeVals, aBest, aBeside, anEdges}
+use Rattle.runs.proofs.Walk.{_≡_, refl, ap, _∙_, ℕ, _+_, _-_, _<_, _≤_, _^_, arith, Bool, true, false, List, [], _∷_, ltb, length, getD, URA, fullShare, Ty, named, imm, w32, w64, tyInt, tyBool, tyRef, Val, vbool, vint, SProp, ent, id⊢, Lft, Share, Fml, ftrue, fat, froom, fdies, flft, ltb-true, ltb-false, Memory, Routine, afterTurn, Heap, Env, WpFn, Tables, Atoms, Fun, Given, Item, Sq, runs, atRet, ‵, _⊛_, ⋆, _$_, _∵_, !, qed, by, move, rewrite, fsplit, fjoin, suffices, frame, done, look, init, store, forget, stop, from, load, lit, of-opd, un, bin, and-then, no-more, first, blocks, stays, leaves-loop, exec, assigns, assigns-last, land, returns, enter, alloc1, alloc0, params1, pass1, pass0, free1, free0, again, fmOf, RattleType, owns, Is, pointee, mem, u32, RefT, now, sliceTy, ShrSlice, shr-slice-lawful, shr-slice-copy, owned, Args, Vals, onEntry, Meets, says, needs, arg, holds, asks, asks-lent, calls-plain, calls-lent, by-cases, Takens, Ends, ends, number, aHole, byValue, lent, machine, Lent, sym, subst, take, erased, tyArray, GName, flent, raw, some, later, keep, drop, use1, use2, split, pick, feqI, await, agg, addr, arr-parts, lft-new, lft-end, shares, Array, array-lawful, sliceVal, Room, nothing, asks-new, calls, lentAt, holeVals, aBest, aNeighbours, anEdges}
 use mir.Syntax.{Body, Fn, Name, place, copy, int as litInt, op1, op2, rvOpd, addrOf, aggregate, lt, sub, add, cast, unsigned, local, valueLocal, memorySlot, skip, seq, assign, block, loop, cond, exit, return, call}
 use mir.Val.{WT, hasTy}
 use types.Tokens.{lent-back}
@@ -18,19 +18,19 @@ use denote.Exit.{yes, Last}
 use denote.Signature.{Signature, plain, shrSliceOf}
 use denote.Laws.{Typed}
 use denote.Triple.Clauses.{Ended, Clauses, closing}
-use Rattle.runs.specs.way.Scan.{noHole, weighed, betterOf, besideAt}
+use Rattle.runs.specs.way.Scan.{noHole, foldHoles, betterOf, neighboursAt}
 use Rattle.model.specs.declared.Hole.{Hole}
 use Rattle.runs.proofs.Calling.{Plain}
 use Rattle.runs.proofs.Proving.{Walks}
 use Rattle.runs.proofs.Looping.{Nearer, OneTurn, loop-from}
-use Rattle.runs.proofs.Scanning.{weighedFrom, scan-start, scan-step, scan-end}
+use Rattle.runs.proofs.Scanning.{foldHolesFrom, scan-start, scan-step, scan-end}
 use Rattle.model.proofs.Hole as T
 use Rattle.runs.proofs.holes.Best as B
 use Rattle.runs.proofs.holes.Edges as E
-use Rattle.runs.proofs.holes.Beside as S
+use Rattle.runs.proofs.holes.Neighbours as S
 use Rattle.runs.proofs.holes.hole_at
 use Rattle.runs.proofs.holes.better
-use Rattle.runs.proofs.holes.beside_at
+use Rattle.runs.proofs.holes.neighbours_at
 
 abbrev R : RattleType
 R = T.the-row
@@ -129,7 +129,7 @@ module _ (L : Sought) where
   Fits base count hs = (count ≤ length hs) × (base + count < 2 ^ 32)
 
   abbrev pub scanClauses : {M : Type 1} (𝓤 : URA M) → Clauses 𝓤 scanEnded
-  scanClauses 𝓤 κs a = record { ghost = Unit {0}; requires = λ _. fact 𝓤 (Fits (a .1 .0) (a .1 .1 .0) (now (a .0))); ensures = λ _ r _. fact 𝓤 (r ≡ weighed (L .step (a .1 .1 .1 .0)) (a .1 .0) (take (a .1 .1 .0) (now (a .0))) (a .1 .1 .1 .1 .0)) }
+  scanClauses 𝓤 κs a = record { ghost = Unit {0}; requires = λ _. fact 𝓤 (Fits (a .1 .0) (a .1 .1 .0) (now (a .0))); ensures = λ _ r _. fact 𝓤 (r ≡ foldHoles (L .step (a .1 .1 .1 .0)) (a .1 .0) (take (a .1 .1 .0) (now (a .0))) (a .1 .1 .1 .1 .0)) }
 
   abbrev pub taken : Takens (scanSignature .params) (scanEnded .kept)
   taken = (lent 0 tt R, (byValue (number w32), (byValue (number w32), (byValue Q, (byValue P, tt)))))
@@ -165,7 +165,7 @@ module _ (L : Sought) where
       b : X .Denot
       b-is : Is X b (P .low b ∷ [])
       up-to : i ≤ count
-      same : b ≡ weighedFrom (L .step need) base count (now s) behind i
+      same : b ≡ foldHolesFrom (L .step need) base count (now s) behind i
 
     abbrev left : Turn → ℕ
     left t = t .i
@@ -185,7 +185,7 @@ module _ (L : Sought) where
         let e : t .i ≡ 0 = omega arith in
         qed W (‵ (Lent κ R s) ∷ (‵ (flft κ q) ⊛ ‵ ftrue) ∷ ‵ Rest ∷ []) ∵
         suffices ! _ (ends 𝓤 H A scanEnded taken (scanClauses 𝓤) W (((κ, tt), (q, tt), tt, x, at), tt) (P .low (t .b)) (t .b) (tt, (tt, (tt, (L .wanted-last need, (L .found-last behind, tt))))) (tt, (tt, (tt, (tt, (tt, tt)))))) $
-        says ! (t .same ∙ ap (weighedFrom (L .step need) base count (now s) behind) e ∙ scan-end (L .step need) base count (now s) (pre .0) behind) $
+        says ! (t .same ∙ ap (foldHolesFrom (L .step need) base count (now s) behind) e ∙ scan-end (L .step need) base count (now s) (pre .0) behind) $
         move ! (1 ∷ []) $ frame ! $ fjoin ! $ frame ! $ owned ! X (Is X) (P .makes 𝓤 H A W) (t .b) _ (t .b-is) $ done !
 
     module _ (l₀ l₁ l₂ l₃ l₄ l₅ l₆ l₇ l₈ l₉ l₁₀ l₁₁ l₁₂ : ℕ) where
@@ -288,7 +288,7 @@ module _ (L : Sought) where
   partEnded = record { signature = partSignature; kept = (yes, (yes, (yes, (yes, tt)))) }
 
   abbrev pub partClauses : {M : Type 1} (𝓤 : URA M) → Clauses 𝓤 partEnded
-  partClauses 𝓤 κs a = record { ghost = Unit {0}; requires = λ _. fact 𝓤 (a .1 .0 + 4 < 2 ^ 32); ensures = λ _ r _. fact 𝓤 (r ≡ weighed (L .step (a .1 .1 .0)) (a .1 .0) (a .0) (a .1 .1 .1 .0)) }
+  partClauses 𝓤 κs a = record { ghost = Unit {0}; requires = λ _. fact 𝓤 (a .1 .0 + 4 < 2 ^ 32); ensures = λ _ r _. fact 𝓤 (r ≡ foldHoles (L .step (a .1 .1 .0)) (a .1 .0) (a .0) (a .1 .1 .1 .0)) }
 
   abbrev pub partTaken : Takens (partSignature .params) (partEnded .kept)
   partTaken = (byValue aPart, (byValue (number w32), (byValue Q, (byValue P, tt))))
@@ -304,7 +304,7 @@ module _ (L : Sought) where
     abbrev Posty : Val → SProp 𝓤
     Posty = Ends 𝓤 H A partEnded partTaken (partClauses 𝓤) ((tt, tt, tt, y, aty), tt)
 
-    exits-part : (r : X .Denot) → Is X r (P .low r ∷ []) → r ≡ weighed (L .step need) i hs behind → ent 𝓤 (⋆ 𝓤 H A (‵ (owns (Array R 4 ∷ u32 ∷ N ∷ X ∷ []) y aty) ∷ [])) (Posty (P .low r))
+    exits-part : (r : X .Denot) → Is X r (P .low r ∷ []) → r ≡ foldHoles (L .step need) i hs behind → ent 𝓤 (⋆ 𝓤 H A (‵ (owns (Array R 4 ∷ u32 ∷ N ∷ X ∷ []) y aty) ∷ [])) (Posty (P .low r))
     exits-part r is e =
         qed W (‵ (owns (Array R 4 ∷ u32 ∷ N ∷ X ∷ []) y aty) ∷ []) ∵
         suffices ! _ (ends 𝓤 H A partEnded partTaken (partClauses 𝓤) W ((tt, tt, tt, y, aty), tt) (P .low r) r (tt, (tt, (L .wanted-last need, (L .found-last behind, tt)))) (tt, (tt, (tt, (tt, tt))))) $ says ! e $
@@ -319,8 +319,8 @@ module _ (L : Sought) where
     fit : (4 ≤ length hs) × (i + 4 < 2 ^ 32)
     fit = (omega (arith, four), fits)
 
-    all : weighed (L .step need) i (take 4 hs) behind ≡ weighed (L .step need) i hs behind
-    all = ap (λ (ys : List Hole). weighed (L .step need) i ys behind) (take-all 4 hs (omega (arith, four)))
+    all : foldHoles (L .step need) i (take 4 hs) behind ≡ foldHoles (L .step need) i hs behind
+    all = ap (λ (ys : List Hole). foldHoles (L .step need) i ys behind) (take-all 4 hs (omega (arith, four)))
 
     walk-part : ent 𝓤 (onEntry 𝓤 H A partSignature tt tt y aty) (WpFn 𝓤 H (𝓣 .C) (𝓣 .Λ) (partFunction scan) (aPart .low hs ∷ vint w32 i ∷ Q .low need ∷ P .low behind ∷ []) Posty)
     walk-part =
@@ -340,7 +340,7 @@ module _ (L : Sought) where
         use2 W (raw _) (asks-new W (arg W (number w32) i (refl, i-fits) ∷ arg W (number w32) 4 (refl, lit< tt) ∷ arg W Q need need-is ∷ arg W P behind behind-is ∷ []) (holds W fit) (ShrSlice (named 0) (ν ∷ []) R .own (lentAt l₅ 0 γ hs) (sliceVal (l₅, 0) (length hs) ∷ [])) (ν ∷ []) fullShare) $
         -- [what the call asks; the lender's part; _7; …; _6; …; …; _4; …; _3; …; _2; …; _1; …; room for _0; …]
         calls ! (fmOf 𝓤 H (W .laws) 𝓣) scanEnded (scanClauses 𝓤) known-scan (((ν ∷ [], tt), (fullShare, tt), tt, (lentAt l₅ 0 γ hs, (i, (4, (need, (behind, tt))))), (sliceVal (l₅, 0) (length hs) ∷ [], (vint w32 i ∷ [], (vint w32 4 ∷ [], (Q .low need ∷ [], (P .low behind ∷ [], tt)))))), tt)
-        P (λ r ws. r ≡ weighed (L .step need) i (take 4 hs) behind) (λ r ws. id⊢ 𝓤 _)
+        P (λ r ws. r ≡ foldHoles (L .step need) i (take 4 hs) behind) (λ r ws. id⊢ 𝓤 _)
         (and-then ! (load ! (from ! (stop !)) (look ! 2 refl)) (and-then ! (load ! (from ! (stop !)) (look ! 11 refl)) (and-then ! (lit ! tt) (and-then ! (load ! (from ! (stop !)) (look ! 9 refl)) (and-then ! (load ! (from ! (stop !)) (look ! 7 refl)) (no-more !)))))) (λ r ws is e.
         move ! (1 ∷ []) $ drop ! $ land ! (from ! (stop !)) (init ! 15 refl (found-typed 𝓤 H A W r is)) $
         -- the lifetime is ended, and the local is one value again
@@ -359,4 +359,4 @@ abbrev pub least : Sought
 least = record { wanted = u32; found = B.the-row; a-wanted = number w32; a-found = aBest; wanted-ty = int; found-ty = B.Laws.mir; wanted-is = refl; found-is = refl; wanted-last = λ x. tt; found-last = λ x. tt; step = betterOf; name = better.Symbol.name }
 
 abbrev pub touching : Sought
-touching = record { wanted = E.the-row; found = S.the-row; a-wanted = anEdges; a-found = aBeside; wanted-ty = E.Laws.mir; found-ty = S.Laws.mir; wanted-is = refl; found-is = refl; wanted-last = λ x. tt; found-last = λ x. tt; step = besideAt; name = beside_at.Symbol.name }
+touching = record { wanted = E.the-row; found = S.the-row; a-wanted = anEdges; a-found = aNeighbours; wanted-ty = E.Laws.mir; found-ty = S.Laws.mir; wanted-is = refl; found-is = refl; wanted-last = λ x. tt; found-last = λ x. tt; step = neighboursAt; name = neighbours_at.Symbol.name }

@@ -1,5 +1,5 @@
 -- What the walks by hand of this crate share: the names of the logic that they use, the laws of what is passed by value and of what is lent, and a slice's machine value.
---     number, unit, aHole, aBest, aBeside, anEdges, anArena, aDraw, aGain     plain data
+--     number, unit, aHole, aBest, aNeighbours, anEdges, anArena, aDraw, aGain     plain data
 --     byValue, lent, recordMut, passedOn           a parameter: plain data, a `&[T]`, a `&mut Arena`, a `&mut [T]` that is passed on
 --     lentAt, holeVals, machine, Lent, scaled               a reference, a hole's and a slice's machine values, what a `&[T]` owns, and that an element's offset fits
 use mir.Syntax.{Width}
@@ -13,7 +13,7 @@ use denote.Struct.Laws as laws
 use Rattle.model.proofs.Hole as hole
 use Rattle.runs.proofs.Arena as arena
 use Rattle.runs.proofs.holes.Best as best
-use Rattle.runs.proofs.holes.Beside as beside
+use Rattle.runs.proofs.holes.Neighbours as neighbours
 use Rattle.runs.proofs.holes.Edges as edges
 use Rattle.runs.proofs.record.Draw as draw
 use Rattle.runs.proofs.record.Gain as gain
@@ -80,8 +80,8 @@ aHole = record { low = hole.Laws.lowered; tells = laws.tells hole.the-type hole.
 abbrev pub aBest : Plain best.the-row
 aBest = record { low = best.Laws.lowered; tells = laws.tells best.the-type best.Laws.the-laws; makes = λ 𝓤 H A W. laws.makes best.the-type best.Laws.the-plain 𝓤 H A; lawful = λ 𝓤 H A W. laws.lawful best.the-type best.Laws.the-laws 𝓤 H A W; silent = λ x f. refl }
 
-abbrev pub aBeside : Plain beside.the-row
-aBeside = record { low = beside.Laws.lowered; tells = laws.tells beside.the-type beside.Laws.the-laws; makes = λ 𝓤 H A W. laws.makes beside.the-type beside.Laws.the-plain 𝓤 H A; lawful = λ 𝓤 H A W. laws.lawful beside.the-type beside.Laws.the-laws 𝓤 H A W; silent = λ x f. refl }
+abbrev pub aNeighbours : Plain neighbours.the-row
+aNeighbours = record { low = neighbours.Laws.lowered; tells = laws.tells neighbours.the-type neighbours.Laws.the-laws; makes = λ 𝓤 H A W. laws.makes neighbours.the-type neighbours.Laws.the-plain 𝓤 H A; lawful = λ 𝓤 H A W. laws.lawful neighbours.the-type neighbours.Laws.the-laws 𝓤 H A W; silent = λ x f. refl }
 
 abbrev pub anEdges : Plain edges.the-row
 anEdges = record { low = edges.Laws.lowered; tells = laws.tells edges.the-type edges.Laws.the-laws; makes = λ 𝓤 H A W. laws.makes edges.the-type edges.Laws.the-plain 𝓤 H A; lawful = λ 𝓤 H A W. laws.lawful edges.the-type edges.Laws.the-laws 𝓤 H A W; silent = λ x f. refl }

@@ -3,5 +3,5 @@ pub mod Plan
 pub mod Act
 pub mod Scan
 pub mod Change
-pub mod Asks
+pub mod Pre
 pub mod Found

@@ -23,7 +23,7 @@ ghost use Rattle.arena.specs.Owners.{own};
 ghost use Rattle.runs.specs.way.Record.{storeRecord};
 ghost use Rattle.runs.specs.way.Change.{drawnBy};
 ghost use Rattle.runs.specs.way.Act.{withState, Draws, endNone, endGiven, fromFrontier, holeDrawn, commitDrawn, nextState, commitPlanned};
-ghost use Rattle.runs.specs.way.Asks.{RecordIn, HoleIn, PlanIn, EndsIn, RequestIn, RunIn, BackIn};
+ghost use Rattle.runs.specs.way.Pre.{RecordIn, HoleIn, PlanIn, EndsIn, RequestIn, RunIn, BackIn};
 ghost use Rattle.runs.specs.Answer.{Answers};
 
 // No run: of the record only the state can change.

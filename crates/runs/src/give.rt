@@ -16,11 +16,11 @@ ghost use Rattle.words.specs.Limits.{holeSlots};
 ghost use Rattle.model.specs.HoleStore.{hole, withBefore, withAfter, withBoth};
 ghost use Rattle.arena.specs.Load.{loadHole};
 ghost use Rattle.arena.specs.Store.{storeHole};
-ghost use Rattle.arena.specs.Fair.{giveFair};
+ghost use Rattle.arena.specs.Valid.{giveValid};
 ghost use Rattle.arena.specs.Calls.{given};
 ghost use Rattle.runs.specs.way.Change.{gains, lost};
 ghost use Rattle.runs.specs.way.Act.{bothWords, Places, Gives, endGiven};
-ghost use Rattle.runs.specs.way.Asks.{StoreIn, SlotIn, StoredIn, TouchIn, GiveIn, BackIn};
+ghost use Rattle.runs.specs.way.Pre.{StoreIn, SlotIn, StoredIn, TouchIn, GiveIn, BackIn};
 
 // The holes gain pages; the run is lost.
 fn gains(count: u32, pages: u32) -> Gain
@@ -129,7 +129,7 @@ fn place(meta: &mut [u32], a: Arena, first: u32, pages: u32, before: u32, after:
 }
 
 // The run is put among the holes, or abandoned.
-fn place_run(meta: &mut [u32], a: Arena, first: u32, pages: u32) -> Gain
+fn holes_give(meta: &mut [u32], a: Arena, first: u32, pages: u32) -> Gain
     requires { ⌜ StoreIn (now meta) a first pages ⌝ }
     ensures { λ r. ⌜ Gives (now (meta .entry)) a pages first (now (meta .exit)) r ⌝ }
 {
@@ -149,7 +149,7 @@ pub fn give_run(meta: &mut [u32], a: Arena, run: Back)
     requires { ⌜ BackIn (now meta) a run ⌝ }
     ensures { λ _. ⌜ now (meta .exit) ≡ endGiven (now (meta .entry)) a (run .pages) (run .first) (run .clear) .book ⌝ }
 {
-    let g = place_run(meta, a, run.first, run.pages);
+    let g = holes_give(meta, a, run.first, run.pages);
     store::store_gained(meta, a, g);
     if run.clear {
         owners::own(meta, run.first, run.pages, 0);
@@ -157,19 +157,19 @@ pub fn give_run(meta: &mut [u32], a: Arena, run: Back)
 }
 
 // Number 13's test for giving so many pages.
-pub fn give_fair(meta: &[u32], size: u32, pages: u32) -> bool
+pub fn give_valid(meta: &[u32], size: u32, pages: u32) -> bool
     requires { ⌜ 40000 ≤ length (now meta) ⌝ }
-    ensures { λ r. ⌜ r ≡ giveFair size (now (meta .entry)) pages ⌝ }
+    ensures { λ r. ⌜ r ≡ giveValid size (now (meta .entry)) pages ⌝ }
 {
-    if load::record_fair(meta, size) {
+    if load::record_valid(meta, size) {
         if pages <= fields::arena::held(meta) {
-            return load::holes_fair(meta);
+            return load::holes_valid(meta);
         }
     }
     false
 }
 
-// A run below the frontier of an arena of `size` pages is given, where that is fair; it is no longer held.
+// A run below the frontier of an arena of `size` pages is given, where that is valid; it is no longer held.
 pub fn give(meta: &mut [u32], size: u32, first: u32, pages: u32)
     requires { ⌜ GiveIn (now meta) size first pages ⌝ }
     ensures { λ _. ⌜ now (meta .exit) ≡ given (now (meta .entry)) first pages ⌝ }

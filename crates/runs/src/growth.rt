@@ -11,9 +11,9 @@ ghost use mathlib.Core.Bool.{false};
 ghost use Prim.Native.Nat.{_+_, _≤_};
 ghost use Rattle.words.specs.Limits.{maxPages};
 ghost use Rattle.words.specs.Host.{commitGranted};
-ghost use Rattle.arena.specs.Fair.{growGives, growFair};
+ghost use Rattle.arena.specs.Valid.{growGives, growValid};
 ghost use Rattle.runs.specs.way.Act.{growWith};
-ghost use Rattle.runs.specs.way.Asks.{RecordIn, EndsIn, RequestIn, BookIn};
+ghost use Rattle.runs.specs.way.Pre.{RecordIn, EndsIn, RequestIn, BookIn};
 ghost use Rattle.runs.specs.Answer.{Answers};
 
 // The run that ends at page `end` grows by the request's pages, if the frontier is there and the arena suffices.
@@ -43,13 +43,13 @@ fn grow_gives(meta: &[u32], size: u32, host: u32, end: u32, pages: u32) -> bool
 }
 
 // Number 13's test for a growth: the holes are read where the pages are given.
-pub fn grow_fair(meta: &[u32], size: u32, host: u32, end: u32, pages: u32) -> bool
+pub fn grow_valid(meta: &[u32], size: u32, host: u32, end: u32, pages: u32) -> bool
     requires { ⌜ BookIn (now meta) size × (end ≤ maxPages) × (pages ≤ maxPages + 1) ⌝ }
-    ensures { λ r. ⌜ r ≡ growFair size (now (meta .entry)) host end pages ⌝ }
+    ensures { λ r. ⌜ r ≡ growValid size (now (meta .entry)) host end pages ⌝ }
 {
-    if load::record_fair(meta, size) {
+    if load::record_valid(meta, size) {
         if grow_gives(meta, size, host, end, pages) {
-            return load::holes_fair(meta);
+            return load::holes_valid(meta);
         }
         return true;
     }

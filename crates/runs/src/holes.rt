@@ -7,8 +7,8 @@ ghost use mathlib.Core.Bool.{cond};
 ghost use lib.ListN.{length, getD, take};
 ghost use Rattle.fields.specs.Field.{hole, pages, Has};
 ghost use Rattle.arena.specs.Load.{loadHole};
-ghost use Rattle.arena.specs.Fair.{holeEndsFair, holeFair};
-ghost use Rattle.runs.specs.way.Scan.{noHole, key, betterOf, bestOf, besideAt, besideOf};
+ghost use Rattle.arena.specs.Valid.{holeEndsValid, holeValid};
+ghost use Rattle.runs.specs.way.Scan.{noHole, key, betterOf, bestOf, neighboursAt, neighboursFrom};
 
 pub fn hole_at(holes: &[Hole], i: usize) -> Hole
     requires { ⌜ i < length (now holes) ⌝ }
@@ -70,7 +70,7 @@ pub struct Edges {
 }
 
 // The codes of the holes that touch a run: of the one that ends at its first page, and of the one that starts at its end. 0 is none.
-pub struct Beside {
+pub struct Neighbours {
     pub before: u32,
     pub after: u32,
 }
@@ -84,29 +84,29 @@ fn code_if(so: bool, i: u32, other: u32) -> u32
 }
 
 // The hole at `i` on the side where it touches the run, before those behind it.
-pub fn beside_at(run: Edges, i: u32, h: Hole, behind: Beside) -> Beside
+pub fn neighbours_at(run: Edges, i: u32, h: Hole, behind: Neighbours) -> Neighbours
     requires { ⌜ i + 1 < 2 ^ 32 ⌝ }
-    ensures { λ r. ⌜ r ≡ besideAt run i h behind ⌝ }
+    ensures { λ r. ⌜ r ≡ neighboursAt run i h behind ⌝ }
 {
     let ends = (h.first as u64) + (h.pages as u64) == (run.first as u64);
     let starts = h.first == run.end;
-    Beside {
+    Neighbours {
         before: code_if(ends, i, behind.before),
         after: code_if(starts, i, behind.after),
     }
 }
 
 // The holes that touch a run, the lowest index of each, among the first `count`, which stand at the index `from` and on, and those behind them.
-pub fn touch(holes: &[Hole], from: u32, count: u32, run: Edges, behind: Beside) -> Beside
+pub fn touch(holes: &[Hole], from: u32, count: u32, run: Edges, behind: Neighbours) -> Neighbours
     requires { ⌜ (count ≤ length (now holes)) × (from + count < 2 ^ 32) ⌝ }
-    ensures { λ r. ⌜ r ≡ besideOf run from (take count (now (holes .entry))) behind ⌝ }
+    ensures { λ r. ⌜ r ≡ neighboursFrom run from (take count (now (holes .entry))) behind ⌝ }
 {
     let mut found = behind;
     let mut i = count;
     while 0 < i {
         let j = i - 1;
         let h = hole_at(holes, j as usize);
-        found = beside_at(run, from + j, h, found);
+        found = neighbours_at(run, from + j, h, found);
         i = j;
     }
     found
@@ -125,8 +125,8 @@ pub fn hole_from(meta: &[u32], i: u32) -> Hole
 
 // Number 13's test of a hole that a give reads: it has a page, and ends at or below the frontier. It has 32 bits and no branch, so that a
 // loop over it takes several holes at a time. One less than no page wraps to the greatest number, which is below none.
-pub fn hole_ends_fair(h: Hole, frontier: u32) -> bool
-    ensures { λ r. ⌜ r ≡ holeEndsFair frontier h ⌝ }
+pub fn hole_ends_valid(h: Hole, frontier: u32) -> bool
+    ensures { λ r. ⌜ r ≡ holeEndsValid frontier h ⌝ }
 {
     let below = h.first <= frontier;
     let enough = wrapping_sub_u32(h.pages, 1) < wrapping_sub_u32(frontier, h.first);
@@ -134,8 +134,8 @@ pub fn hole_ends_fair(h: Hole, frontier: u32) -> bool
 }
 
 // Of one that a commit reads: it has at most `total` pages, too. The sum has 64 bits, so it does not wrap.
-pub fn hole_fair(h: Hole, total: u32, frontier: u32) -> bool
-    ensures { λ r. ⌜ r ≡ holeFair total frontier h ⌝ }
+pub fn hole_valid(h: Hole, total: u32, frontier: u32) -> bool
+    ensures { λ r. ⌜ r ≡ holeValid total frontier h ⌝ }
 {
     let few = h.pages <= total;
     let some = 1 <= h.pages;

@@ -14,7 +14,7 @@ ghost use mathlib.Core.Path.{_≡_};
 ghost use Prim.Native.Nat.{_+_, _≤_};
 ghost use Rattle.words.specs.Limits.{maxPages};
 ghost use Rattle.arena.specs.Calls.{commitFor};
-ghost use Rattle.runs.specs.way.Asks.{BookIn};
+ghost use Rattle.runs.specs.way.Pre.{BookIn};
 ghost use Rattle.runs.specs.way.Found.{found, Finds};
 ghost use Rattle.runs.specs.Answer.{Answers};
 
@@ -30,9 +30,9 @@ pub struct Arena {
 }
 
 // What a commit of some pages finds among the holes.
-pub struct Plan {
+pub struct Choice {
     // Every hole is in its range.
-    pub fair: bool,
+    pub valid: bool,
     // The chosen hole: its index and one, or 0 for none.
     pub code: u32,
 }
@@ -61,16 +61,16 @@ pub enum Commit {
 }
 
 // What a commit finds among the holes, where every word that it reads is in its range. Nothing is written.
-fn find(meta: &[u32], size: u32, pages: u32) -> Plan
+fn find(meta: &[u32], size: u32, pages: u32) -> Choice
     requires { ⌜ BookIn (now meta) size ⌝ }
     ensures { λ r. ⌜ r ≡ found size (now (meta .entry)) pages ⌝ }
 {
-    if load::record_fair(meta, size) {
+    if load::record_valid(meta, size) {
         let a = load::load_record(meta);
         return plans::plan(meta, a, pages);
     }
-    Plan {
-        fair: false,
+    Choice {
+        valid: false,
         code: 0,
     }
 }
@@ -81,7 +81,7 @@ pub fn would_commit(meta: &[u32], size: u32, pages: u32) -> bool
     ensures { λ r. ⌜ Finds r size (now (meta .entry)) pages ⌝ }
 {
     let p = find(meta, size, pages);
-    if !p.fair {
+    if !p.valid {
         return false;
     }
     let a = load::load_record(meta);
@@ -100,7 +100,7 @@ pub fn commit_for(meta: &mut [u32], size: u32, host: u32, pages: u32, owner: u32
     ensures { λ r. ⌜ Answers r (now (meta .exit)) (commitFor size (now (meta .entry)) host pages owner) ⌝ }
 {
     let p = find(meta, size, pages);
-    if !p.fair {
+    if !p.valid {
         return Commit::Refused(13);
     }
     let q = Request {

@@ -9,7 +9,7 @@ ghost use lib.ListN.{length};
 ghost use Rattle.runs.specs.way.Record.{recordOf};
 ghost use Rattle.words.specs.Limits.{holeSlots};
 ghost use Rattle.fields.specs.Field.{arena, holes, get};
-ghost use Rattle.arena.specs.Fair.{recordFair, holesEndFair};
+ghost use Rattle.arena.specs.Valid.{recordValid, holesEndValid};
 
 pub fn load_record(meta: &[u32]) -> Arena
     requires { ⌜ 40000 ≤ length (now meta) ⌝ }
@@ -27,9 +27,9 @@ pub fn load_record(meta: &[u32]) -> Arena
 }
 
 // Is every word of the record in its range, in an arena of so many pages.
-pub fn record_fair(meta: &[u32], size: u32) -> bool
+pub fn record_valid(meta: &[u32], size: u32) -> bool
     requires { ⌜ 40000 ≤ length (now meta) ⌝ }
-    ensures { λ r. ⌜ r ≡ recordFair size (now (meta .entry)) ⌝ }
+    ensures { λ r. ⌜ r ≡ recordValid size (now (meta .entry)) ⌝ }
 {
     if 2 < fields::arena::state(meta) {
         return false;
@@ -47,11 +47,11 @@ pub fn record_fair(meta: &[u32], size: u32) -> bool
 }
 
 // Is every hole in a give's range.
-pub fn holes_fair(meta: &[u32]) -> bool
+pub fn holes_valid(meta: &[u32]) -> bool
     requires { ⌜ (40000 ≤ length (now meta)) × (get (now meta) (arena holes) ≤ holeSlots) ⌝ }
-    ensures { λ r. ⌜ r ≡ holesEndFair (now (meta .entry)) ⌝ }
+    ensures { λ r. ⌜ r ≡ holesEndValid (now (meta .entry)) ⌝ }
 {
-    plans::all_end_fair(
+    plans::all_end_valid(
         meta,
         fields::arena::holes(meta),
         fields::arena::frontier(meta),

@@ -6,7 +6,7 @@ ghost use lib.ListN.{length};
 ghost use Rattle.fields.specs.Field.{words};
 ghost use Rattle.arena.specs.Owners.{own};
 ghost use Rattle.arena.specs.Calls.{heldDirect, everyDirect};
-ghost use Rattle.runs.specs.way.Asks.{BookIn};
+ghost use Rattle.runs.specs.way.Pre.{BookIn};
 
 // The pages from `first` on get an owner.
 pub fn own(meta: &mut [u32], first: u32, pages: u32, owner: u32)

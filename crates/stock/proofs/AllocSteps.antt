@@ -14,14 +14,14 @@ use Rattle.calls.specs.Take.{takeCall}
 use Rattle.take.specs.declared.call.Take.{Take}
 use Rattle.take.specs.declared.call.Take.the-variants.{Refused, Took}
 use Rattle.take.specs.way.TakeAnswer.{Takes}
-use Rattle.take.specs.way.TakePlan.{CallAsks}
+use Rattle.take.specs.way.TakePlan.{CallPre}
 use Rattle.take.proofs.AnswerSteps.{told-refused, told-code, told-count, told-number}
 use Rattle.take.proofs.TakeSpares.{call-spares}
 use Rattle.take.proofs.InArena.{take-in-arena}
 use Rattle.pool.specs.Stock.{blank}
 use Rattle.poolcalls.specs.Stock.{countIn, entryIn, putCount, putAll}
-use Rattle.poolcalls.specs.Calls.{topFair, bringOn, tookOn, allocOn, BlockEnds}
-use Rattle.stock.specs.way.Asks.{ListAsks}
+use Rattle.poolcalls.specs.Calls.{topValid, bringOn, tookOn, allocOn, BlockEnds}
+use Rattle.stock.specs.way.Pre.{ListPre}
 use Rattle.stock.specs.way.Ends.{Brings}
 
 -- ---- of m blocks the last is granted
@@ -30,9 +30,9 @@ module _ (b : List ℕ) (c m : ℕ) (l : List ℕ) where
   unfolding bringOn
   bring-none z = rw (eq-eqb m 0 z) (record { code = refl; block = λ old. refl; book = refl })
 
-  module _ (some : m ≡ 0 → ⊥) (n : ℕ) (a : ListAsks n l m) where
-    pub others-asks : ListAsks n l (m - 1)
-    others-asks = record { few = omega (arith, a .few); there = omega (arith, a .there); low = λ i h. a .low i (omega arith) }
+  module _ (some : m ≡ 0 → ⊥) (n : ℕ) (a : ListPre n l m) where
+    pub others-pre : ListPre n l (m - 1)
+    others-pre = record { few = omega (arith, a .few); there = omega (arith, a .there); low = λ i h. a .low i (omega arith) }
 
     pub bring-last : (b₁ b₂ : List ℕ) (w : ℕ) → b₁ ≡ putAll b c 0 (ListN.take (m - 1) l) → b₂ ≡ putCount b₁ c (m - 1) → w ≡ getD l (m - 1) 0 → Brings w b₂ (bringOn b c m l)
     unfolding bringOn
@@ -53,8 +53,8 @@ module _ (n : ℕ) (b : List ℕ) (c h : ℕ) (s : Take) (b₁ l : List ℕ) (t 
     counted : m ≡ takeCall n b c (shapeOf c) h blank .count
     counted = let x = takeCall n b c (shapeOf c) h blank in told-count (x .code) (x .count) (x .virgin) m v (sym (t .answer) ∙ e)
 
-    pub took-asks : CallAsks n b c → ListAsks n l m
-    took-asks a =
+    pub took-pre : CallPre n b c → ListPre n l m
+    took-pre a =
         let x = takeCall n b c (shapeOf c) h blank in
         rw (counted, t .list) (record {
           few = call-spares n b c h blank .few;
@@ -75,13 +75,13 @@ module _ (n : ℕ) (b : List ℕ) (c h k : ℕ) (e : k ≡ countIn b c) where
   unfolding allocOn
   alloc-took z r b′ old new t = rw (eq-eqb (countIn b c) 0 (sym e ∙ z)) t
 
-  module _ (some : k ≡ 0 → ⊥) (f : Bool) (ef : f ≡ topFair n b c) where
+  module _ (some : k ≡ 0 → ⊥) (f : Bool) (ef : f ≡ topValid n b c) where
     there : countIn b c ≡ 0 → ⊥
     there z = some (e ∙ z)
 
-    pub alloc-unfair : (old : ℕ) → not f ≡ true → BlockEnds (allocOn n b c h) 13 b old old
+    pub alloc-invalid : (old : ℕ) → not f ≡ true → BlockEnds (allocOn n b c h) 13 b old old
     unfolding allocOn
-    alloc-unfair old u = rw (ne-eqb (countIn b c) 0 there, ← ef, not-true f u) (record { code = refl; book = refl; block = refl })
+    alloc-invalid old u = rw (ne-eqb (countIn b c) 0 there, ← ef, not-true f u) (record { code = refl; book = refl; block = refl })
 
     pub alloc-popped : (g w old : ℕ) (b′ : List ℕ) → not f ≡ false → g ≡ entryIn b c (k - 1) → w ≡ blockWord (shapeOf c .kind) g → b′ ≡ putCount b c (k - 1) → BlockEnds (allocOn n b c h) 0 b′ old w
     unfolding allocOn

@@ -12,15 +12,15 @@ use Rattle.classes.specs.Shape.{shapeOf}
 use Rattle.model.specs.Release.{ofKind}
 use Rattle.calls.specs.Out.{outAt, outFault, unmarked, repeats}
 use Rattle.calls.specs.Release.{releasedNone, releaseBlocks}
-use Rattle.take.specs.way.TakePlan.{CallAsks}
+use Rattle.take.specs.way.TakePlan.{CallPre}
 use Rattle.pool.specs.Stock.{stockMost}
 use Rattle.poolcalls.specs.Stock.{countIn, stocked, pushed}
 use Rattle.pool.specs.Pool.{refused, freed}
-use Rattle.poolcalls.specs.Calls.{said, countFair, gaveOn, freedOn, freeOn, FreeEnds}
-use Rattle.stock.specs.way.Asks.{NearAsks, FreeAsks}
-use Rattle.stock.specs.way.Ends.{Gave, Kept, farFault, isFull}
+use Rattle.poolcalls.specs.Calls.{poolReply, countValid, releasedOn, freedOn, freeOn, FreeEnds}
+use Rattle.stock.specs.way.Pre.{NearPre, FreePre}
+use Rattle.stock.specs.way.Ends.{ReleasedOne, Kept, farFault, isFull}
 use Rattle.stock.proofs.RoomSteps.{room-limit}
-use Rattle.stock.proofs.LookSteps.{behind-kind, behind-granule, far-kind, near-kind, far-out}
+use Rattle.stock.proofs.QuerySteps.{behind-kind, behind-granule, far-kind, near-kind, far-out}
 
 -- ---- not in the arena
 pub far-other : (x : ℕ) → 2 ^ 62 ≤ x → 9 ≡ farFault x
@@ -41,26 +41,26 @@ module _ (c w x : ℕ) (ex : (x + blockWord (shapeOf c .kind) 0) % 2 ^ 64 ≡ w)
         let s = leb-false (2 ^ 62) x t in
         rw (near-kind c w x ex fit s, far-out c w x ex fit n b l s) (record { code = e ∙ rw t; book = refl }))
 
-    pub free-near : CallAsks n b c → x < 4096 * n → NearAsks n b c x w
+    pub free-near : CallPre n b c → x < 4096 * n → NearPre n b c x w
     free-near a l =
         let s : x < 2 ^ 62 = omega (arith, a .few) in
         record { known = a .known; few = a .few; long = a .long; low = l; granule = behind-granule c w x ex fit s; kind = behind-kind c w x ex fit s }
 
 -- ---- of the class's kind, in the arena
-module _ (n : ℕ) (b : List ℕ) (c g w : ℕ) (a : NearAsks n b c g w) (s : Bool) (es : s ≡ stocked b c g) where
+module _ (n : ℕ) (b : List ℕ) (c g w : ℕ) (a : NearPre n b c g w) (s : Bool) (es : s ≡ stocked b c g) where
   pub free-stocked : (h : ℕ) → s ≡ true → FreeEnds (freeOn n b c h w) 10 b
   unfolding freeOn ofKind
   free-stocked h z =
       let st : stocked b c (granuleOf w) ≡ true = rw (← (a .granule)) (sym es ∙ z) in
       rw (eq-eqb (kindOf w) (shapeOf c .kind) (a .kind), st, and-no (outAt n b c (shapeOf c) w)) (record { code = refl; book = refl })
 
-  pub free-asks : s ≡ false → FreeAsks n b c g w
-  free-asks z = record { known = a .known; few = a .few; long = a .long; low = a .low; granule = a .granule; kind = a .kind; away = sym es ∙ z }
+  pub free-pre : s ≡ false → FreePre n b c g w
+  free-pre z = record { known = a .known; few = a .few; long = a .long; low = a .low; granule = a .granule; kind = a .kind; away = sym es ∙ z }
 
 -- ---- and not in stock
-module _ (n : ℕ) (b : List ℕ) (c g w : ℕ) (a : FreeAsks n b c g w) where
-  pub asks-call : CallAsks n b c
-  asks-call = record { known = a .known; few = a .few; long = a .long }
+module _ (n : ℕ) (b : List ℕ) (c g w : ℕ) (a : FreePre n b c g w) where
+  pub pre-call : CallPre n b c
+  pre-call = record { known = a .known; few = a .few; long = a .long }
 
   pub word-low : granuleOf w < 4096 * n
   word-low = rw (← (a .granule)) (a .low)
@@ -72,7 +72,7 @@ module _ (n : ℕ) (b : List ℕ) (c g w : ℕ) (a : FreeAsks n b c g w) where
   not-stocked : stocked b c (granuleOf w) ≡ false
   not-stocked = rw (← (a .granule)) (a .away)
 
-  free-is : (h : ℕ) → freeOn n b c h w ≡ cond (not (outAt n b c (shapeOf c) w)) (said (refused 10) b) (freedOn n b c h w)
+  free-is : (h : ℕ) → freeOn n b c h w ≡ cond (not (outAt n b c (shapeOf c) w)) (poolReply (refused 10) b) (freedOn n b c h w)
   unfolding freeOn
   free-is h = rw (right-kind, not-stocked, and-true (outAt n b c (shapeOf c) w))
 
@@ -84,16 +84,16 @@ module _ (n : ℕ) (b : List ℕ) (c g w : ℕ) (a : FreeAsks n b c g w) where
     no-room : ltb k (stockMost c) ≡ false
     no-room = not-true (ltb k (stockMost c)) (and-right (leb k 255) (not (ltb k (stockMost c))) (sym ef ∙ full))
 
-    full-is : freeOn n b c h w ≡ cond (not (outAt n b c (shapeOf c) w)) (said (refused 10) b) (gaveOn freed (releaseBlocks n b c (shapeOf c) h (w ∷ []) .book) (releaseBlocks n b c (shapeOf c) h (w ∷ [])))
-    unfolding freedOn countFair
+    full-is : freeOn n b c h w ≡ cond (not (outAt n b c (shapeOf c) w)) (poolReply (refused 10) b) (releasedOn freed (releaseBlocks n b c (shapeOf c) h (w ∷ []) .book) (releaseBlocks n b c (shapeOf c) h (w ∷ [])))
+    unfolding freedOn countValid
     full-is = free-is h ∙ rw (← ek, no-room, at-most)
 
     not-out : outAt n b c (shapeOf c) w ≡ false → releaseBlocks n b c (shapeOf c) h (w ∷ []) ≡ releasedNone b 10
     unfolding releaseBlocks outFault unmarked repeats
     not-out t = rw (right-kind, t)
 
-    free-given : (r : ℕ) (b′ : List ℕ) → Gave r b′ (releaseBlocks n b c (shapeOf c) h (w ∷ [])) → FreeEnds (freeOn n b c h w) r b′
-    unfolding gaveOn
+    free-given : (r : ℕ) (b′ : List ℕ) → ReleasedOne r b′ (releaseBlocks n b c (shapeOf c) h (w ∷ [])) → FreeEnds (freeOn n b c h w) r b′
+    unfolding releasedOn
     free-given r b′ z =
         by-cases (outAt n b c (shapeOf c) w)
         (λ t.
@@ -102,7 +102,7 @@ module _ (n : ℕ) (b : List ℕ) (c g w : ℕ) (a : FreeAsks n b c g w) where
         (λ u. rw u (record { code = z .code ∙ eqb-true _ 0 u; book = z .book }))
         (λ u. rw u (record { code = z .code; book = z .book }))))
         (λ t.
-        let y : Gave r b′ (releasedNone b 10) = rw (not-out t) at z in
+        let y : ReleasedOne r b′ (releasedNone b 10) = rw (not-out t) at z in
         rw (full-is, t) (record { code = y .code; book = y .book }))
 
   -- it is not
@@ -112,7 +112,7 @@ module _ (n : ℕ) (b : List ℕ) (c g w : ℕ) (a : FreeAsks n b c g w) where
 
     module _ (z : o ≡ true) where
       pub keep-beyond : 255 < k → Kept 13 b n b c w
-      unfolding freedOn countFair
+      unfolding freedOn countValid
       keep-beyond l =
           let none : ltb k (stockMost c) ≡ false = le-ltb k (stockMost c) (omega (arith, room-limit c)) in
           record { ends = λ h. rw (free-is h, ← eo, z, ← ek, none, lt-leb k 255 l) (record { code = refl; book = refl }) }
@@ -130,9 +130,9 @@ module _ (n : ℕ) (b : List ℕ) (c g w : ℕ) (a : FreeAsks n b c g w) where
           record { ends = λ h. rw (free-is h, ← eo, z, fewer) (record { code = refl; book = q ∙ ap (pushed b c) (a .granule) }) }
 
 -- from before the look into the stock
-pub free-full : (n : ℕ) (b : List ℕ) (c g w : ℕ) → NearAsks n b c g w → (s : Bool) → s ≡ stocked b c g → s ≡ false → (f : Bool) (k : ℕ) → k ≡ countIn b c → f ≡ isFull c k → f ≡ true
-    → (h r : ℕ) (b′ : List ℕ) → Gave r b′ (releaseBlocks n b c (shapeOf c) h (w ∷ [])) → FreeEnds (freeOn n b c h w) r b′
-free-full n b c g w a s es z f k ek ef full h r b′ t = free-given n b c g w (free-asks n b c g w a s es z) f k ek ef full h r b′ t
+pub free-full : (n : ℕ) (b : List ℕ) (c g w : ℕ) → NearPre n b c g w → (s : Bool) → s ≡ stocked b c g → s ≡ false → (f : Bool) (k : ℕ) → k ≡ countIn b c → f ≡ isFull c k → f ≡ true
+    → (h r : ℕ) (b′ : List ℕ) → ReleasedOne r b′ (releaseBlocks n b c (shapeOf c) h (w ∷ [])) → FreeEnds (freeOn n b c h w) r b′
+free-full n b c g w a s es z f k ek ef full h r b′ t = free-given n b c g w (free-pre n b c g w a s es z) f k ek ef full h r b′ t
 
 pub free-kept : (n : ℕ) (b : List ℕ) (c h w r : ℕ) (b′ : List ℕ) → Kept r b′ n b c w → FreeEnds (freeOn n b c h w) r b′
 free-kept n b c h w r b′ k = k .ends h

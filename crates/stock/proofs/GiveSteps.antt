@@ -12,18 +12,18 @@ use Rattle.release.specs.declared.Released.{Released}
 use Rattle.release.specs.declared.Released.the-variants.{Refused, Fate}
 use Rattle.release.specs.way.Act.{Answered}
 use Rattle.release.specs.Answer.{answerAs}
-use Rattle.release.specs.way.Asks.{ClassAsks}
+use Rattle.release.specs.way.Pre.{ClassPre}
 use Rattle.release.specs.way.One.{OneBack}
 use Rattle.release.proofs.OneSteps.{one-carried, one-left}
-use Rattle.take.specs.way.TakePlan.{CallAsks}
-use Rattle.stock.specs.way.Ends.{Gave}
+use Rattle.take.specs.way.TakePlan.{CallPre}
+use Rattle.stock.specs.way.Ends.{ReleasedOne}
 
 -- what the heap's functions ask of a class
-pub class-asks : (n : ℕ) (b : List ℕ) (c : ℕ) (sh : Shape) → CallAsks n b c → sh ≡ shapeOf c → ClassAsks n b c sh
-class-asks n b c sh a e = record { known = a .known; sound = rw e (shape-sound c); few = a .few; long = a .long }
+pub class-pre : (n : ℕ) (b : List ℕ) (c : ℕ) (sh : Shape) → CallPre n b c → sh ≡ shapeOf c → ClassPre n b c sh
+class-pre n b c sh a e = record { known = a .known; sound = rw e (shape-sound c); few = a .few; long = a .long }
 
-pub class-asks-of : (n : ℕ) (b : List ℕ) (c : ℕ) → CallAsks n b c → ClassAsks n b c (shapeOf c)
-class-asks-of n b c a = class-asks n b c (shapeOf c) a refl
+pub class-pre-of : (n : ℕ) (b : List ℕ) (c : ℕ) → CallPre n b c → ClassPre n b c (shapeOf c)
+class-pre-of n b c a = class-pre n b c (shapeOf c) a refl
 
 -- the heap's answer as a number
 told-refused : (j f k : ℕ) → Refused k ≡ answerAs j f → k ≡ j
@@ -35,30 +35,30 @@ told-fate zero f g e = refl
 told-fate (suc j) f g e = cc
 
 module _ (z : Heap.Released) (b′ : List ℕ) (a : Released) (h : Answered a b′ z) where
-  number : (k : ℕ) → a ≡ Refused k → Gave k b′ z
+  number : (k : ℕ) → a ≡ Refused k → ReleasedOne k b′ z
   number k e = record { code = told-refused (z .code) (z .fate) k (sym e ∙ h .answer); book = h .left }
 
-  none : (f : ℕ) → a ≡ Fate f → Gave 0 b′ z
+  none : (f : ℕ) → a ≡ Fate f → ReleasedOne 0 b′ z
   none f e = record { code = told-fate (z .code) (z .fate) f (sym e ∙ h .answer); book = h .left }
 
 module _ (n : ℕ) (b : List ℕ) (c h w : ℕ) (t : Bool) (b₁ : List ℕ) (o : OneBack t b₁ n b c (shapeOf c) w) where
-  pub gave-one : t ≡ true → CallAsks n b c → Gave 0 b₁ (releaseBlocks n b c (shapeOf c) h (w ∷ []))
-  gave-one e a =
-      none (releaseBlocks n b c (shapeOf c) h (w ∷ [])) b₁ (Fate 0) (one-carried n b c (shapeOf c) w t b₁ o (class-asks-of n b c a) e h) 0 refl
+  pub released-one : t ≡ true → CallPre n b c → ReleasedOne 0 b₁ (releaseBlocks n b c (shapeOf c) h (w ∷ []))
+  released-one e a =
+      none (releaseBlocks n b c (shapeOf c) h (w ∷ [])) b₁ (Fate 0) (one-carried n b c (shapeOf c) w t b₁ o (class-pre-of n b c a) e h) 0 refl
 
   module _ (e : t ≡ false) where
     left : b₁ ≡ b
     left = one-left n b c (shapeOf c) w t b₁ o e
 
-    pub list-asks : CallAsks n b c → ClassAsks n b₁ c (shapeOf c)
-    list-asks a = rw left (class-asks-of n b c a)
+    pub list-pre : CallPre n b c → ClassPre n b₁ c (shapeOf c)
+    list-pre a = rw left (class-pre-of n b c a)
 
     module _ (r : Released) (b₂ : List ℕ) (a : Answered r b₂ (releaseBlocks n b₁ c (shapeOf c) h (w ∷ []))) where
       answered : Answered r b₂ (releaseBlocks n b c (shapeOf c) h (w ∷ []))
       answered = rw left at a
 
-      pub gave-refused : (k : ℕ) → r ≡ Refused k → Gave k b₂ (releaseBlocks n b c (shapeOf c) h (w ∷ []))
-      gave-refused = number (releaseBlocks n b c (shapeOf c) h (w ∷ [])) b₂ r answered
+      pub released-one-refused : (k : ℕ) → r ≡ Refused k → ReleasedOne k b₂ (releaseBlocks n b c (shapeOf c) h (w ∷ []))
+      released-one-refused = number (releaseBlocks n b c (shapeOf c) h (w ∷ [])) b₂ r answered
 
-      pub gave-fate : (f : ℕ) → r ≡ Fate f → Gave 0 b₂ (releaseBlocks n b c (shapeOf c) h (w ∷ []))
-      gave-fate = none (releaseBlocks n b c (shapeOf c) h (w ∷ [])) b₂ r answered
+      pub released-one-fate : (f : ℕ) → r ≡ Fate f → ReleasedOne 0 b₂ (releaseBlocks n b c (shapeOf c) h (w ∷ []))
+      released-one-fate = none (releaseBlocks n b c (shapeOf c) h (w ∷ [])) b₂ r answered

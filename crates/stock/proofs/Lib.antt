@@ -5,5 +5,5 @@ pub mod GiveSteps
 pub mod AllocSteps
 pub mod TrimSteps
 pub mod OutSteps
-pub mod LookSteps
+pub mod QuerySteps
 pub mod FreeSteps

@@ -32,7 +32,7 @@ use Rattle.release.specs.way.Blocks.{blockAt, findOut}
 use Rattle.release.proofs.BlockSteps.{none-found, found-at}
 use Rattle.release.proofs.Bits.{below-capacity}
 use Rattle.release.proofs.OutSteps.{not-out, is-out}
-use Rattle.stock.specs.way.Asks.{PageAsks, SmallAsks}
+use Rattle.stock.specs.way.Pre.{PagePre, SmallPre}
 
 -- ---- by the run that has the word's granule
 found-block : (sh : Shape) (q w : ℕ) (f : Found) (i : ℕ) → f ≡ blockAt sh q w → f ≡ At i → (isBlock sh q w ≡ true) × (i ≡ indexOf sh q w)
@@ -70,7 +70,7 @@ module _ (c : ℕ) (h : c < 64) where
   unfolding shapeOf smallShape
   small-header = rw (lt-ltb c 64 h)
 
-module _ (n : ℕ) (b : List ℕ) (c p : ℕ) (a : PageAsks n b c p) where
+module _ (n : ℕ) (b : List ℕ) (c p : ℕ) (a : PagePre n b c p) where
   whole-page : whole n b (shapeOf c) c p ≡ (ltb p (get b (arena frontier)) && (eqb (get b (page owner p)) (suc c) && eqb (get b (page first p)) p))
   unfolding whole
   whole-page =
@@ -186,9 +186,9 @@ module _ (c w : ℕ) (small : c < 64) (sh : Shape) (es : sh ≡ shapeOf c) (x : 
       rw (es, yes, index-here o))
 
 -- ---- and the whole
-module _ (n : ℕ) (b : List ℕ) (c w p : ℕ) (a : SmallAsks n b c w) (ep : p ≡ pageAt w) where
-  pub page-asks : PageAsks n b c p
-  page-asks = record { small = a .small; few = a .few; long = a .long; below = omega (arith, a .low) }
+module _ (n : ℕ) (b : List ℕ) (c w p : ℕ) (a : SmallPre n b c w) (ep : p ≡ pageAt w) where
+  pub page-pre : PagePre n b c p
+  page-pre = record { small = a .small; few = a .few; long = a .long; below = omega (arith, a .low) }
 
   -- a run of one page that has the granule begins at its page
   run-starts : inRunOf n b (shapeOf c) c w ≡ true → startOf b w ≡ p
@@ -218,14 +218,14 @@ module _ (n : ℕ) (b : List ℕ) (c w p : ℕ) (a : SmallAsks n b c w) (ep : p 
       starts : startOf b w ≡ p
       unfolding startOf
       starts =
-          let q = and-right (eqb (get b (page owner p)) (suc c)) _ (and-right (ltb p (get b (arena frontier))) _ (sym (whole-page n b c p page-asks) ∙ w-whole)) in
+          let q = and-right (eqb (get b (page owner p)) (suc c)) _ (and-right (ltb p (get b (arena frontier))) _ (sym (whole-page n b c p page-pre) ∙ w-whole)) in
           rw (← ep) (eqb-true (get b (page first p)) p q)
 
       in-run : inRunOf n b (shapeOf c) c w ≡ true
       unfolding inRunOf
       in-run =
-          let f = ltb-true p (get b (arena frontier)) (and-left _ _ (sym (whole-page n b c p page-asks) ∙ w-whole)) in
-          rw (starts, ← ep, lt-ltb p n (page-asks .below), lt-ltb p (get b (arena frontier)) f, le-leb p p (omega arith), lt-ltb p (p + shapeOf c .pages) (omega (arith, small-pages c (a .small)))) w-whole
+          let f = ltb-true p (get b (arena frontier)) (and-left _ _ (sym (whole-page n b c p page-pre) ∙ w-whole)) in
+          rw (starts, ← ep, lt-ltb p n (page-pre .below), lt-ltb p (get b (arena frontier)) f, le-leb p p (omega arith), lt-ltb p (p + shapeOf c .pages) (omega (arith, small-pages c (a .small)))) w-whole
 
       out-here : outAt n b c (shapeOf c) w ≡ outIn b (shapeOf c) p w
       unfolding outAt
@@ -240,7 +240,7 @@ module _ (n : ℕ) (b : List ℕ) (c w p : ℕ) (a : SmallAsks n b c w) (ep : p 
 
         module _ (i : ℕ) (h : f ≡ At i) where
           pub small-has-bit : Has b (out p i)
-          small-has-bit = has-bit b (shapeOf c) p w f i (shape-sound c) (omega (arith, page-asks .below, a .long)) at-run h
+          small-has-bit = has-bit b (shapeOf c) p w f i (shape-sound c) (omega (arith, page-pre .below, a .long)) at-run h
 
           pub small-bit : (x : ℕ) → x ≡ get b (out p i) → eqb x 1 ≡ outAt n b c (shapeOf c) w
           small-bit x k = out-bit b (shapeOf c) p w f at-run i h x k ∙ sym out-here

@@ -12,9 +12,9 @@ use lib.Seq.{drop-cons, getD-take}
 use borrow.Author.Tests.{lt-ltb, le-ltb}
 use Rattle.facts.proofs.Lists.{drop-past}
 use Rattle.words.specs.Word.{granuleOf}
-use Rattle.take.specs.way.TakePlan.{CallAsks}
+use Rattle.take.specs.way.TakePlan.{CallPre}
 use Rattle.poolcalls.specs.Stock.{placeAt, countIn, entryIn, placeIn, stocked, putCount, putEntry, putPlace, put, pushed, putAll}
-use Rattle.stock.specs.way.Asks.{ListAsks}
+use Rattle.stock.specs.way.Pre.{ListPre}
 
 pub push-step : (b b₁ b₂ : List ℕ) (c k g : ℕ) → k ≡ countIn b c → b₁ ≡ put b c k g → b₂ ≡ putCount b₁ c (k + 1) → b₂ ≡ pushed b c g
 push-step b b₁ b₂ c k g p q r = r ∙ rw (q, p) (ap (putCount (put b c (countIn b c) g) c) (omega arith))
@@ -42,21 +42,21 @@ put-long b c k g = simp length-set
 
 -- ---- the first m blocks of a list: k are in their places, and the others are left to be put
 pub record Putting (n : ℕ) (b₀ : List ℕ) (c m : ℕ) (ws b : List ℕ) (k : ℕ) : Type 0 where
-  pub asks : CallAsks n b c
+  pub pre : CallPre n b c
   pub upto : k ≤ m
   pub same : length b ≡ length b₀
   pub rest : putAll b₀ c 0 (take m ws) ≡ putAll b c k (drop k (take m ws))
 
-pub putting-starts : (n : ℕ) (b : List ℕ) (c m : ℕ) (ws : List ℕ) → CallAsks n b c → Putting n b c m ws b 0
-putting-starts n b c m ws a = record { asks = a; upto = omega arith; same = refl; rest = refl }
+pub putting-starts : (n : ℕ) (b : List ℕ) (c m : ℕ) (ws : List ℕ) → CallPre n b c → Putting n b c m ws b 0
+putting-starts n b c m ws a = record { pre = a; upto = omega arith; same = refl; rest = refl }
 
-module _ (n : ℕ) (b₀ : List ℕ) (c m : ℕ) (ws b : List ℕ) (k : ℕ) (i : Putting n b₀ c m ws b k) (a : ListAsks n ws m) where
+module _ (n : ℕ) (b₀ : List ℕ) (c m : ℕ) (ws b : List ℕ) (k : ℕ) (i : Putting n b₀ c m ws b k) (a : ListPre n ws m) where
   pub putting-goes : (b′ : List ℕ) (w : ℕ) → k < m → w ≡ getD ws k 0 → b′ ≡ put b c k (granuleOf w) → Putting n b₀ c m ws b′ (k + 1)
   putting-goes b′ w h ew q =
       let l : length b′ ≡ length b = ap length q ∙ put-long b c k (granuleOf w) in
       let next : putAll b c k (getD (take m ws) k 0 ∷ drop (suc k) (take m ws)) ≡ putAll b′ c (k + 1) (drop (k + 1) (take m ws)) = rw (add-one k, q, ew, getD-take) in
       record {
-        asks = record { known = i .asks .known; few = i .asks .few; long = omega (arith, i .asks .long) };
+        pre = record { known = i .pre .known; few = i .pre .few; long = omega (arith, i .pre .long) };
         upto = omega arith;
         same = l ∙ i .same;
         rest = i .rest ∙ ap (putAll b c k) (drop-cons (take m ws) k 0 (rw length-take (omega (arith, a .there)))) ∙ next;

@@ -12,19 +12,19 @@ use Rattle.words.specs.Word.{blockWord, packBlock}
 use Rattle.classes.specs.Shape.{shapeOf, smallShape, mediumShape}
 use Rattle.classes.proofs.Shapes.{shape-sound}
 use Rattle.poolcalls.specs.Stock.{countIn, entryIn}
-use Rattle.poolcalls.specs.Calls.{countFair, topFair}
+use Rattle.poolcalls.specs.Calls.{countValid, topValid}
 
 module _ (n : ℕ) (b : List ℕ) (c k : ℕ) (e : k ≡ countIn b c) where
-  pub top-over : 255 < k → false ≡ topFair n b c
-  unfolding topFair countFair
+  pub top-over : 255 < k → false ≡ topValid n b c
+  unfolding topValid countValid
   top-over h = rw (← e, lt-leb k 255 h)
 
-  pub top-within : k ≤ 255 → (g : ℕ) → g ≡ entryIn b c (k - 1) → ltb g (4096 * n) ≡ topFair n b c
-  unfolding topFair countFair
+  pub top-within : k ≤ 255 → (g : ℕ) → g ≡ entryIn b c (k - 1) → ltb g (4096 * n) ≡ topValid n b c
+  unfolding topValid countValid
   top-within h g f = rw (← e, le-leb k 255 h, f)
 
-  pub top-low : (f : Bool) → f ≡ topFair n b c → not f ≡ false → k - 1 < 256
-  unfolding topFair countFair
+  pub top-low : (f : Bool) → f ≡ topValid n b c → not f ≡ false → k - 1 < 256
+  unfolding topValid countValid
   top-low f ef u = omega (arith, leb-true k 255 (rw (← e) at (and-left (leb (countIn b c) 255) _ (sym ef ∙ not-false f u))))
 
 pub kind-small : (c : ℕ) → c < 64 → 1 ≡ shapeOf c .kind

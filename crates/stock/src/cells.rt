@@ -3,7 +3,7 @@ ghost use mathlib.Core.Path.{_≡_};
 ghost use Prim.Native.Nat.{_+_, _*_, _/_, _%_, _<_};
 ghost use lib.ListN.{length};
 ghost use Rattle.poolcalls.specs.Stock.{countAt, entryAt, placeAt, countIn, entryIn, placeIn, putCount, putEntry, putPlace};
-ghost use Rattle.stock.specs.way.Asks.{StockAsks};
+ghost use Rattle.stock.specs.way.Pre.{StockPre};
 use fields::bits::place_bits;
 use fields::bits::read_bits;
 
@@ -26,21 +26,21 @@ fn place_word(g: u32) -> usize
 }
 
 pub fn count(meta: &[u32], c: u32) -> u32
-    requires { ⌜ StockAsks (now meta) c ⌝ }
+    requires { ⌜ StockPre (now meta) c ⌝ }
     ensures { λ r. ⌜ r ≡ countIn (now (meta .entry)) c ⌝ }
 {
     meta[count_word(c)]
 }
 
 pub fn set_count(meta: &mut [u32], c: u32, v: u32)
-    requires { ⌜ StockAsks (now meta) c ⌝ }
+    requires { ⌜ StockPre (now meta) c ⌝ }
     ensures { λ _. ⌜ now (meta .exit) ≡ putCount (now (meta .entry)) c v ⌝ }
 {
     meta[count_word(c)] = v;
 }
 
 pub fn entry(meta: &[u32], c: u32, k: u32) -> u32
-    requires { ⌜ StockAsks (now meta) c ⌝ }
+    requires { ⌜ StockPre (now meta) c ⌝ }
     requires { ⌜ k < 256 ⌝ }
     ensures { λ r. ⌜ r ≡ entryIn (now (meta .entry)) c k ⌝ }
 {
@@ -48,7 +48,7 @@ pub fn entry(meta: &[u32], c: u32, k: u32) -> u32
 }
 
 pub fn set_entry(meta: &mut [u32], c: u32, k: u32, g: u32)
-    requires { ⌜ StockAsks (now meta) c ⌝ }
+    requires { ⌜ StockPre (now meta) c ⌝ }
     requires { ⌜ k < 256 ⌝ }
     ensures { λ _. ⌜ now (meta .exit) ≡ putEntry (now (meta .entry)) c k g ⌝ }
 {

@@ -1,17 +1,17 @@
 // A free: the tests in their order, then the stock, or the heap where the stock holds enough.
 ghost use mathlib.Core.Path.{_≡_};
 ghost use mathlib.Core.Bool.{false};
-ghost use Rattle.take.specs.way.TakePlan.{CallAsks};
+ghost use Rattle.take.specs.way.TakePlan.{CallPre};
 ghost use Rattle.poolcalls.specs.Stock.{countIn};
 ghost use Rattle.poolcalls.specs.Calls.{freeOn, FreeEnds};
-ghost use Rattle.stock.specs.way.Asks.{NearAsks, FreeAsks};
+ghost use Rattle.stock.specs.way.Pre.{NearPre, FreePre};
 ghost use Rattle.stock.specs.way.Ends.{Kept, farFault, isFull};
 use crate::cells::count;
 use crate::give::give;
-use crate::look::behind;
 use crate::out::is_out;
 use crate::places::is_stocked;
 use crate::places::push;
+use crate::query::behind;
 use crate::room::STOCK_ROOM;
 use crate::room::is_full;
 
@@ -30,7 +30,7 @@ fn far_fault(x: u64) -> u32
 
 // A stock of k blocks with room for the block at granule g, or a COUNT out of its range.
 fn keep(meta: &mut [u32], n: u32, c: u32, k: u32, g: u32, w: u64) -> u32
-    requires { ⌜ FreeAsks n (now meta) c g w ⌝ }
+    requires { ⌜ FreePre n (now meta) c g w ⌝ }
     requires { ⌜ k ≡ countIn (now meta) c ⌝ }
     requires { ⌜ isFull c k ≡ false ⌝ }
     ensures { λ r. ⌜ Kept r (now (meta .exit)) n (now (meta .entry)) c w ⌝ }
@@ -47,7 +47,7 @@ fn keep(meta: &mut [u32], n: u32, c: u32, k: u32, g: u32, w: u64) -> u32
 
 // The block at granule g of the arena.
 fn take_back(meta: &mut [u32], n: u32, c: u32, host: u32, g: u32, w: u64) -> u32
-    requires { ⌜ NearAsks n (now meta) c g w ⌝ }
+    requires { ⌜ NearPre n (now meta) c g w ⌝ }
     ensures { λ r. ⌜ FreeEnds (freeOn n (now (meta .entry)) c host w) r (now (meta .exit)) ⌝ }
 {
     if is_stocked(meta, n, c, g) {
@@ -62,7 +62,7 @@ fn take_back(meta: &mut [u32], n: u32, c: u32, host: u32, g: u32, w: u64) -> u32
 }
 
 pub fn free(meta: &mut [u32], n: u32, c: u32, host: u32, w: u64) -> u32
-    requires { ⌜ CallAsks n (now meta) c ⌝ }
+    requires { ⌜ CallPre n (now meta) c ⌝ }
     ensures { λ r. ⌜ FreeEnds (freeOn n (now (meta .entry)) c host w) r (now (meta .exit)) ⌝ }
 {
     let x = behind(c, w);

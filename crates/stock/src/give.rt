@@ -2,14 +2,14 @@
 ghost use mathlib.Core.List.{_∷_, []};
 ghost use Rattle.classes.specs.Shape.{shapeOf};
 ghost use Rattle.calls.specs.Release.{releaseBlocks};
-ghost use Rattle.take.specs.way.TakePlan.{CallAsks};
-ghost use Rattle.stock.specs.way.Ends.{Gave};
+ghost use Rattle.take.specs.way.TakePlan.{CallPre};
+ghost use Rattle.stock.specs.way.Ends.{ReleasedOne};
 use release::Released;
 
 // The release of one block: 0, or its number. A list is made only where `release_one` leaves it.
 pub fn give(meta: &mut [u32], n: u32, c: u32, host: u32, w: u64) -> u32
-    requires { ⌜ CallAsks n (now meta) c ⌝ }
-    ensures { λ r. ⌜ Gave r (now (meta .exit)) (releaseBlocks n (now (meta .entry)) c (shapeOf c) host (w ∷ [])) ⌝ }
+    requires { ⌜ CallPre n (now meta) c ⌝ }
+    ensures { λ r. ⌜ ReleasedOne r (now (meta .exit)) (releaseBlocks n (now (meta .entry)) c (shapeOf c) host (w ∷ [])) ⌝ }
 {
     if release::release_one(meta, n, c, w) {
         return 0;

@@ -7,8 +7,8 @@ ghost use Rattle.pages.specs.Runs.{whole};
 ghost use Rattle.pages.specs.Stack.{pageAt};
 ghost use Rattle.calls.specs.Out.{outAt};
 ghost use Rattle.release.specs.way.Blocks.{blockAt};
-ghost use Rattle.take.specs.way.TakePlan.{CallAsks};
-ghost use Rattle.stock.specs.way.Asks.{PageAsks, SmallAsks};
+ghost use Rattle.take.specs.way.TakePlan.{CallPre};
+ghost use Rattle.stock.specs.way.Pre.{PagePre, SmallPre};
 use classes::shape_of;
 use pages::page_within;
 use release::Found;
@@ -17,7 +17,7 @@ use release::find_out;
 
 // For any class.
 pub fn out_at(meta: &[u32], n: u32, c: u32, w: u64) -> bool
-    requires { ⌜ CallAsks n (now meta) c ⌝ }
+    requires { ⌜ CallPre n (now meta) c ⌝ }
     ensures { λ r. ⌜ r ≡ outAt n (now (meta .entry)) c (shapeOf c) w ⌝ }
 {
     let shape = shape_of(c);
@@ -30,7 +30,7 @@ pub fn out_at(meta: &[u32], n: u32, c: u32, w: u64) -> bool
 
 // Page p is a run of the small class.
 fn is_run(meta: &[u32], n: u32, c: u32, p: u32) -> bool
-    requires { ⌜ PageAsks n (now meta) c p ⌝ }
+    requires { ⌜ PagePre n (now meta) c p ⌝ }
     ensures { λ r. ⌜ r ≡ whole n (now (meta .entry)) (shapeOf c) c p ⌝ }
 {
     if p >= fields::arena::frontier(meta) {
@@ -64,7 +64,7 @@ fn small_at(c: u32, w: u64) -> Found
 
 // A small class has a way of its own, since its runs are one page: a fifth less than by `out_at` (docs/PERFORMANCE.md).
 fn small_out(meta: &[u32], n: u32, c: u32, w: u64) -> bool
-    requires { ⌜ SmallAsks n (now meta) c w ⌝ }
+    requires { ⌜ SmallPre n (now meta) c w ⌝ }
     ensures { λ r. ⌜ r ≡ outAt n (now (meta .entry)) c (shapeOf c) w ⌝ }
 {
     let p = page_within(w);
@@ -80,7 +80,7 @@ fn small_out(meta: &[u32], n: u32, c: u32, w: u64) -> bool
 
 // Of a word whose granule is in the arena.
 pub fn is_out(meta: &[u32], n: u32, c: u32, w: u64) -> bool
-    requires { ⌜ CallAsks n (now meta) c ⌝ }
+    requires { ⌜ CallPre n (now meta) c ⌝ }
     requires { ⌜ granuleOf w < 4096 * n ⌝ }
     ensures { λ r. ⌜ r ≡ outAt n (now (meta .entry)) c (shapeOf c) w ⌝ }
 {

@@ -4,8 +4,8 @@ ghost use Prim.Native.Nat.{_*_, _<_};
 ghost use lib.ListN.{take};
 ghost use Rattle.words.specs.Word.{granuleOf};
 ghost use Rattle.poolcalls.specs.Stock.{countIn, stocked, put, pushed, putAll};
-ghost use Rattle.take.specs.way.TakePlan.{CallAsks};
-ghost use Rattle.stock.specs.way.Asks.{GranuleAsks, ListAsks};
+ghost use Rattle.take.specs.way.TakePlan.{CallPre};
+ghost use Rattle.stock.specs.way.Pre.{GranulePre, ListPre};
 use crate::cells::count;
 use crate::cells::entry;
 use crate::cells::place;
@@ -16,7 +16,7 @@ use words::Word;
 
 // Whether granule g is in the class's stock.
 pub fn is_stocked(meta: &[u32], n: u32, c: u32, g: u32) -> bool
-    requires { ⌜ GranuleAsks n (now meta) c g ⌝ }
+    requires { ⌜ GranulePre n (now meta) c g ⌝ }
     ensures { λ r. ⌜ r ≡ stocked (now (meta .entry)) c g ⌝ }
 {
     let k = place(meta, g);
@@ -28,7 +28,7 @@ pub fn is_stocked(meta: &[u32], n: u32, c: u32, g: u32) -> bool
 
 // It comes into place k.
 fn put(meta: &mut [u32], n: u32, c: u32, k: u32, g: u32)
-    requires { ⌜ GranuleAsks n (now meta) c g ⌝ }
+    requires { ⌜ GranulePre n (now meta) c g ⌝ }
     requires { ⌜ k < 256 ⌝ }
     ensures { λ _. ⌜ now (meta .exit) ≡ put (now (meta .entry)) c k g ⌝ }
 {
@@ -38,7 +38,7 @@ fn put(meta: &mut [u32], n: u32, c: u32, k: u32, g: u32)
 
 // It comes on top of the k that are there.
 pub fn push(meta: &mut [u32], n: u32, c: u32, k: u32, g: u32)
-    requires { ⌜ GranuleAsks n (now meta) c g ⌝ }
+    requires { ⌜ GranulePre n (now meta) c g ⌝ }
     requires { ⌜ k ≡ countIn (now meta) c ⌝ }
     requires { ⌜ k < 256 ⌝ }
     ensures { λ _. ⌜ now (meta .exit) ≡ pushed (now (meta .entry)) c g ⌝ }
@@ -49,7 +49,7 @@ pub fn push(meta: &mut [u32], n: u32, c: u32, k: u32, g: u32)
 
 // The block comes into place k.
 fn put_block(meta: &mut [u32], n: u32, c: u32, k: u32, w: u64)
-    requires { ⌜ CallAsks n (now meta) c ⌝ }
+    requires { ⌜ CallPre n (now meta) c ⌝ }
     requires { ⌜ granuleOf w < 4096 * n ⌝ }
     requires { ⌜ k < 256 ⌝ }
     ensures { λ _. ⌜ now (meta .exit) ≡ put (now (meta .entry)) c k (granuleOf w) ⌝ }
@@ -59,8 +59,8 @@ fn put_block(meta: &mut [u32], n: u32, c: u32, k: u32, w: u64)
 
 // The first m blocks of the list come into the first m places.
 pub fn put_all(meta: &mut [u32], n: u32, c: u32, list: &[u64], m: u32)
-    requires { ⌜ CallAsks n (now meta) c ⌝ }
-    requires { ⌜ ListAsks n (now list) m ⌝ }
+    requires { ⌜ CallPre n (now meta) c ⌝ }
+    requires { ⌜ ListPre n (now list) m ⌝ }
     ensures { λ _. ⌜ now (meta .exit) ≡ putAll (now (meta .entry)) c 0 (take m (now (list .entry))) ⌝ }
 {
     let mut k: u32 = 0;

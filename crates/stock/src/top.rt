@@ -3,16 +3,16 @@ ghost use mathlib.Core.Path.{_≡_};
 ghost use Prim.Native.Nat.{_<_};
 ghost use Rattle.words.specs.Word.{blockWord};
 ghost use Rattle.classes.specs.Shape.{shapeOf};
-ghost use Rattle.poolcalls.specs.Calls.{topFair};
-ghost use Rattle.stock.specs.way.Asks.{TopAsks};
+ghost use Rattle.poolcalls.specs.Calls.{topValid};
+ghost use Rattle.stock.specs.way.Pre.{TopPre};
 use crate::cells::entry;
 use crate::room::STOCK_ROOM;
 use words::Word;
 
 // Number 13 for a stock of k blocks: COUNT, and the ENTRY on top.
-pub fn top_fair(meta: &[u32], n: u32, c: u32, k: u32) -> bool
-    requires { ⌜ TopAsks (now meta) c k ⌝ }
-    ensures { λ r. ⌜ r ≡ topFair n (now (meta .entry)) c ⌝ }
+pub fn top_valid(meta: &[u32], n: u32, c: u32, k: u32) -> bool
+    requires { ⌜ TopPre (now meta) c k ⌝ }
+    ensures { λ r. ⌜ r ≡ topValid n (now (meta .entry)) c ⌝ }
 {
     if k > STOCK_ROOM {
         return false;

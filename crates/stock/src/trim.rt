@@ -1,15 +1,15 @@
 // A trim: the stock's top goes back to the heap.
-ghost use Rattle.take.specs.way.TakePlan.{CallAsks};
+ghost use Rattle.take.specs.way.TakePlan.{CallPre};
 ghost use Rattle.poolcalls.specs.Calls.{trimOn, BlockEnds};
 use crate::cells::count;
 use crate::cells::entry;
 use crate::cells::set_count;
 use crate::give::give;
 use crate::top::block_word;
-use crate::top::top_fair;
+use crate::top::top_valid;
 
 pub fn trim(meta: &mut [u32], n: u32, c: u32, host: u32, block: &mut u64) -> u32
-    requires { ⌜ CallAsks n (now meta) c ⌝ }
+    requires { ⌜ CallPre n (now meta) c ⌝ }
     ensures { λ r. ⌜ BlockEnds (trimOn n (now (meta .entry)) c host) r (now (meta .exit)) (now (block .entry)) (now (block .exit)) ⌝ }
 {
     let k = count(meta, c);
@@ -17,7 +17,7 @@ pub fn trim(meta: &mut [u32], n: u32, c: u32, host: u32, block: &mut u64) -> u32
         *block = 0;
         return 0;
     }
-    if !top_fair(meta, n, c, k) {
+    if !top_valid(meta, n, c, k) {
         return 13;
     }
     let w = block_word(c, entry(meta, c, k - 1));

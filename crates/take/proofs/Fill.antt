@@ -22,7 +22,7 @@ use Rattle.pages.specs.Links.{cutOut, unlink}
 use Rattle.pages.proofs.Draws.{draw-changes}
 use Rattle.pages.proofs.Frames.{changes-unlink}
 use Rattle.calls.specs.Take.{walk, Filled, filledNone, unlistSpent, fillFrom}
-use Rattle.take.proofs.TakePages.{Fair, whole-below, latest-most}
+use Rattle.take.proofs.TakePages.{Valid, whole-below, latest-most}
 use Rattle.take.proofs.TakeDraws.{latest-small, draw-full}
 use Rattle.take.proofs.Walk.{Planned, planned, planned-stops, stops, stops-full, some-page, Step, walk-below, walk-stops, walk-step, isTurned, head-kept}
 
@@ -56,7 +56,7 @@ pub record Turned (n : ℕ) (b b₁ : List ℕ) (c : ℕ) (sh : Shape) (k m x : 
   pub finds : planned b₁ sh k m (get b₁ (class partial c)) ≡ planned b sh k m x
 
 module _ (n : ℕ) (b : List ℕ) (hb : leb (words n) (length b) ≡ true) (c : ℕ) (hc : ltb c 76 ≡ true) (sh : Shape) (sd : Sound sh) (bound : get b (arena frontier) ≤ n) where
-  pub page-there : (l m q : ℕ) → Fair n b c sh l m q → ltb q n ≡ true
+  pub page-there : (l m q : ℕ) → Valid n b c sh l m q → ltb q n ≡ true
   page-there l m q f = lt-ltb q n (omega (arith, whole-below n b c sh q (f .run), sd .paged))
 
   module _ (k m : ℕ) (e : stops m (get b (class partial c)) ≡ false) (w : walk n b c sh (suc k) m (get b (class partial c)) 0 ≡ true) where
@@ -76,10 +76,10 @@ module _ (n : ℕ) (b : List ℕ) (hb : leb (words n) (length b) ≡ true) (c : 
     step = walk-step n b c sh k m code 0 e w
 
     pub there : ltb page₁ n ≡ true
-    there = page-there 1 m page₁ (step .fair)
+    there = page-there 1 m page₁ (step .valid)
 
     drawn : (t : Field → Bool) → t (page free page₁) ≡ true → t (page carved page₁) ≡ true → ((i : ℕ) → t (out page₁ i) ≡ true) → Changes t b (draw b sh page₁ m)
-    drawn = draw-changes b sh page₁ m (latest-small b sh m page₁ (sd .few) (leb-true _ _ (step .fair .within)) (step .fair .entries))
+    drawn = draw-changes b sh page₁ m (latest-small b sh m page₁ (sd .few) (leb-true _ _ (step .valid .within)) (step .valid .entries))
 
     pub drawn-kept : (g : Field) → ok g ≡ true → isCount g ≡ false → get (draw b sh page₁ m) g ≡ get b g
     drawn-kept g o f = drawn isCount refl refl (λ i. refl) .kept g o f
@@ -96,7 +96,7 @@ module _ (n : ℕ) (b : List ℕ) (hb : leb (words n) (length b) ≡ true) (c : 
     -- the page gave all that was wanted
     turned-full : hasMore (draw b sh page₁ m) sh page₁ ≡ true → Turned n b (draw b sh page₁ m) c sh k left after
     turned-full g =
-        let j : length (latest b sh page₁ m) ≡ m = draw-full n b hb c sh 1 m page₁ there (step .fair) g in
+        let j : length (latest b sh page₁ m) ≡ m = draw-full n b hb c sh 1 m page₁ there (step .valid) g in
         let z : (x : ℕ) → stops left x ≡ true = λ x. stops-full left x (omega arith) in
         let hd = drawn-kept (class partial c) hc refl in
         let fr = drawn-kept (arena frontier) refl refl in

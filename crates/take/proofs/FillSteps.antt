@@ -14,11 +14,11 @@ use Rattle.fields.specs.Field.{arena, class, page, frontier, partial, next, pre
 use Rattle.model.specs.Page.{wordOf}
 use Rattle.pages.specs.Stack.{latest, draw, hasMore, spliced, Drawn}
 use Rattle.pages.specs.Links.{unlink}
-use Rattle.pages.specs.way.Asks.{DrawAsks, UnlinkAsks}
+use Rattle.pages.specs.way.Pre.{DrawPre, UnlinkPre}
 use Rattle.pages.proofs.Draws.{draw-changes}
 use Rattle.pages.proofs.Spliced.{length-spliced}
 use Rattle.calls.specs.Take.{walk, filledNone, thenFilled, unlistSpent, fillFrom}
-use Rattle.take.specs.way.TakePlan.{TakeAsks, fills, TurnAsks, GaveTurn, FillAsks, Filling}
+use Rattle.take.specs.way.TakePlan.{TakePre, fills, TurnPre, GaveTurn, FillPre, Filling}
 use Rattle.take.proofs.TakePages.{whole-below, latest-some, latest-most, positive}
 use Rattle.take.proofs.TakeDraws.{latest-small}
 use Rattle.take.proofs.Walk.{stops, some-wanted, some-page, Step, walk-below, walk-step}
@@ -36,7 +36,7 @@ module _ (b : List ℕ) (c : ℕ) (sh : Shape) (q : ℕ) where
 
 -- ---- one turn
 module _ (b : List ℕ) (c : ℕ) (sh : Shape) (l : List ℕ) (at m : ℕ) where
-  pub turn-unlinks : (h r : ℕ) (b₁ l₁ : List ℕ) → TurnAsks b c sh l at m → h ≡ get b (class partial c) → Drawn r b₁ l₁ b sh (h - 1) l at m → UnlinkAsks b₁ c (h - 1)
+  pub turn-unlinks : (h r : ℕ) (b₁ l₁ : List ℕ) → TurnPre b c sh l at m → h ≡ get b (class partial c) → Drawn r b₁ l₁ b sh (h - 1) l at m → UnlinkPre b₁ c (h - 1)
   turn-unlinks h r b₁ l₁ a e d =
       let f = a .draws in
       let q = get b (class partial c) - 1 in
@@ -48,7 +48,7 @@ module _ (b : List ℕ) (c : ℕ) (sh : Shape) (l : List ℕ) (at m : ℕ) where
         before = rw (ch .long, ch .kept (page prev q) refl refl) (a .before);
       })
 
-  pub turn-draws : (h : ℕ) → TurnAsks b c sh l at m → h ≡ get b (class partial c) → DrawAsks b sh (h - 1) l at m
+  pub turn-draws : (h : ℕ) → TurnPre b c sh l at m → h ≡ get b (class partial c) → DrawPre b sh (h - 1) l at m
   turn-draws h a e = rw e (a .draws)
 
   pub turn-done : (h r : ℕ) (b₁ b₂ l₁ : List ℕ) → h ≡ get b (class partial c) → Drawn r b₁ l₁ b sh (h - 1) l at m → b₂ ≡ unlistSpent b₁ c sh (h - 1) → GaveTurn r b₂ l₁ b c sh l at m
@@ -61,7 +61,7 @@ module _ (b₀ : List ℕ) (c : ℕ) (sh : Shape) (l₀ : List ℕ) where
   pub record FillInv (b l : List ℕ) (at m : ℕ) : Type 0 where
     pub pages : ℕ
     pub fuel : ℕ
-    pub asks : TakeAsks pages b c sh
+    pub pre : TakePre pages b c sh
     pub enough : m ≤ fuel
     pub walks : walk pages b c sh fuel m (get b (class partial c)) 0 ≡ true
     pub count : at ≡ length (fillFrom b c sh fuel m .blocks)
@@ -71,12 +71,12 @@ module _ (b₀ : List ℕ) (c : ℕ) (sh : Shape) (l₀ : List ℕ) where
     pub long : length b ≡ length b₀
     pub same : length l ≡ length l₀
 
-  pub fill-starts : (at : ℕ) → FillAsks b₀ c sh l₀ at → FillInv b₀ l₀ at (sh .batch)
+  pub fill-starts : (at : ℕ) → FillPre b₀ c sh l₀ at → FillInv b₀ l₀ at (sh .batch)
   fill-starts at a =
       record {
         pages = a .pages;
         fuel = sh .batch;
-        asks = a .asks;
+        pre = a .pre;
         enough = omega arith;
         walks = a .walks;
         count = a .count;
@@ -113,12 +113,12 @@ module _ (b : List ℕ) (c : ℕ) (sh : Shape) (l : List ℕ) (at m : ℕ) where
   fill-length : (k : ℕ) → stops m code ≡ false → length (fillFrom b c sh (suc k) m .blocks) ≡ length (fillFrom book₁ c sh k (m - length blocks₁) .blocks) + length blocks₁
   fill-length k e = rw (fill-goes k e, length-append, length-map)
 
-  writes : (n k : ℕ) → (at ≡ 0 → ⊥) → TakeAsks n b c sh → at ≡ length (fillFrom b c sh k m .blocks) → walk n b c sh k m code 0 ≡ true → (k ≡ 0 → ⊥) × (stops m code ≡ false)
+  writes : (n k : ℕ) → (at ≡ 0 → ⊥) → TakePre n b c sh → at ≡ length (fillFrom b c sh k m .blocks) → walk n b c sh k m code 0 ≡ true → (k ≡ 0 → ⊥) × (stops m code ≡ false)
   unfolding fillFrom
   writes n zero z a e w = absurd (z e)
   writes n (suc k) z a e w = (λ u. omega arith, by-cases (stops m code) (λ s. absurd (z (e ∙ ap (λ f. length (f .blocks)) (fill-stops b c sh (suc k) m s)))) (λ s. s))
 
-  turning : (n k : ℕ) → (at ≡ 0 → ⊥) → TakeAsks n b c sh → at ≡ length (fillFrom b c sh (suc k) m .blocks) → walk n b c sh (suc k) m code 0 ≡ true → Turning n k
+  turning : (n k : ℕ) → (at ≡ 0 → ⊥) → TakePre n b c sh → at ≡ length (fillFrom b c sh (suc k) m .blocks) → walk n b c sh (suc k) m code 0 ≡ true → Turning n k
   turning n k z a e w =
       let s = writes n (suc k) z a e w .1 in
       let st = walk-step n b c sh k m code 0 s w in
@@ -127,12 +127,12 @@ module _ (b : List ℕ) (c : ℕ) (sh : Shape) (l : List ℕ) (at m : ℕ) where
         step = st;
         turn = turned n b (le-leb (words n) (length b) (a .long)) c (lt-ltb c 76 (a .known)) sh (a .shape) (a .bound) k m s w;
         count = e ∙ fill-length k s;
-        some = latest-some b sh (code - 1) m (some-wanted m code s) (st .fair .more);
+        some = latest-some b sh (code - 1) m (some-wanted m code s) (st .valid .more);
       }
 
-  asks-of : (n k : ℕ) → TakeAsks n b c sh → at ≤ length l → Turning n k → TurnAsks b c sh l at m
-  asks-of n k a p t =
-      let f = t .step .fair in
+  pre-of : (n k : ℕ) → TakePre n b c sh → at ≤ length l → Turning n k → TurnPre b c sh l at m
+  pre-of n k a p t =
+      let f = t .step .valid in
       let r = whole-below n b c sh (code - 1) (f .run) in
       let nx = leb-true (get b (page next (code - 1))) (get b (arena frontier)) (walk-below n b c sh k (m - length blocks₁) (get b (page next (code - 1))) code (t .step .rest)) in
       record {
@@ -152,12 +152,12 @@ module _ (b : List ℕ) (c : ℕ) (sh : Shape) (l : List ℕ) (at m : ℕ) where
         before = rw (t .step .before) (omega (arith, r, a .long));
       }
 
-  pub turn-asks : (b₀ l₀ : List ℕ) → (at ≡ 0 → ⊥) → FillInv b₀ c sh l₀ b l at m → TurnAsks b c sh l at m
-  turn-asks b₀ l₀ z i = go (i .fuel) (i .count) (i .walks)
+  pub turn-pre : (b₀ l₀ : List ℕ) → (at ≡ 0 → ⊥) → FillInv b₀ c sh l₀ b l at m → TurnPre b c sh l at m
+  turn-pre b₀ l₀ z i = go (i .fuel) (i .count) (i .walks)
     where
-      go : (k : ℕ) → at ≡ length (fillFrom b c sh k m .blocks) → walk (i .pages) b c sh k m code 0 ≡ true → TurnAsks b c sh l at m
-      go zero e w = absurd (writes (i .pages) zero z (i .asks) e w .0 refl)
-      go (suc k) e w = asks-of (i .pages) k (i .asks) (i .places) (turning (i .pages) k z (i .asks) e w)
+      go : (k : ℕ) → at ≡ length (fillFrom b c sh k m .blocks) → walk (i .pages) b c sh k m code 0 ≡ true → TurnPre b c sh l at m
+      go zero e w = absurd (writes (i .pages) zero z (i .pre) e w .0 refl)
+      go (suc k) e w = pre-of (i .pages) k (i .pre) (i .places) (turning (i .pages) k z (i .pre) e w)
 
 -- words laid right before the place from which the list is as it was
 drop-spliced : (l ws : List ℕ) (at : ℕ) → length ws ≤ at → at ≤ length l → drop (at - length ws) (spliced l (at - length ws) ws) ≡ ws ++ drop at l
@@ -171,8 +171,8 @@ relaid : (xs ys ws t u whole : List ℕ) → u ≡ ws ++ t → ys ≡ xs ++ ws �
 relaid xs ys ws t u whole e f g = rw e (sym (append-assoc xs ws t) ∙ ap (λ z. z ++ t) (sym f) ∙ g)
 
 module _ (b₀ : List ℕ) (c : ℕ) (sh : Shape) (l₀ : List ℕ) (b b′ l l′ : List ℕ) (at m r : ℕ) where
-  asks-after : (n k : ℕ) → TakeAsks n b c sh → Turning b c sh l at m n k → TakeAsks n (book₁ b c sh l at m) c sh
-  asks-after n k a t = record { known = a .known; shape = a .shape; few = a .few; long = rw (t .turn .long) (a .long); bound = rw (t .turn .frontier) (a .bound) }
+  pre-after : (n k : ℕ) → TakePre n b c sh → Turning b c sh l at m n k → TakePre n (book₁ b c sh l at m) c sh
+  pre-after n k a t = record { known = a .known; shape = a .shape; few = a .few; long = rw (t .turn .long) (a .long); bound = rw (t .turn .frontier) (a .bound) }
 
   after : (k : ℕ) (i : FillInv b₀ c sh l₀ b l at m) → m ≤ suc k → fillFrom b c sh (suc k) m .book ≡ fills b₀ c sh .book
       → fillFrom b c sh (suc k) m .blocks ++ drop at l ≡ fills b₀ c sh .blocks ++ drop (length (fills b₀ c sh .blocks)) l₀
@@ -190,7 +190,7 @@ module _ (b₀ : List ℕ) (c : ℕ) (sh : Shape) (l₀ : List ℕ) (b b′ l l�
       rw (g .book, g .count) (record {
         pages = i .pages;
         fuel = k;
-        asks = asks-after (i .pages) k (i .asks) t;
+        pre = pre-after (i .pages) k (i .pre) t;
         enough = omega (arith, t .some);
         walks = t .turn .walks;
         count = omega (arith, t .count);
@@ -206,8 +206,8 @@ module _ (b₀ : List ℕ) (c : ℕ) (sh : Shape) (l₀ : List ℕ) (b b′ l l�
     where
       go : (k : ℕ) → m ≤ k → at ≡ length (fillFrom b c sh k m .blocks) → walk (i .pages) b c sh k m (get b (class partial c)) 0 ≡ true → fillFrom b c sh k m .book ≡ fills b₀ c sh .book
           → fillFrom b c sh k m .blocks ++ drop at l ≡ fills b₀ c sh .blocks ++ drop (length (fills b₀ c sh .blocks)) l₀ → FillInv b₀ c sh l₀ b′ l′ (at - r) (m - r)
-      go zero n e w bk ls = absurd (writes b c sh l at m (i .pages) zero z (i .asks) e w .0 refl)
-      go (suc k) n e w bk ls = after k i n bk ls (turning b c sh l at m (i .pages) k z (i .asks) e w) g
+      go zero n e w bk ls = absurd (writes b c sh l at m (i .pages) zero z (i .pre) e w .0 refl)
+      go (suc k) n e w bk ls = after k i n bk ls (turning b c sh l at m (i .pages) k z (i .pre) e w) g
 
 -- nothing is left to write: the fill yields nothing more
 module _ (b₀ : List ℕ) (c : ℕ) (sh : Shape) (l₀ : List ℕ) (b l : List ℕ) (at m : ℕ) where
@@ -218,7 +218,7 @@ module _ (b₀ : List ℕ) (c : ℕ) (sh : Shape) (l₀ : List ℕ) (b l : List 
       go zero h w e s = some-wanted m (get b (class partial c)) s (omega arith)
       go (suc k) h w e s =
           let st = walk-step n b c sh k m (get b (class partial c)) 0 s w in
-          omega (arith, fill-length b c sh l at m k s, latest-some b sh (get b (class partial c) - 1) m (some-wanted m (get b (class partial c)) s) (st .fair .more))
+          omega (arith, fill-length b c sh l at m k s, latest-some b sh (get b (class partial c) - 1) m (some-wanted m (get b (class partial c)) s) (st .valid .more))
 
   pub fill-done : at ≡ 0 → FillInv b₀ c sh l₀ b l at m → Filling b l (fills b₀ c sh) l₀
   fill-done z i =
@@ -227,7 +227,7 @@ module _ (b₀ : List ℕ) (c : ℕ) (sh : Shape) (l₀ : List ℕ) (b l : List 
       record { book = sym (ap (λ t. t .book) f) ∙ i .book; list = sym (ap (λ t. t .blocks ++ drop 0 l) f) ∙ ls }
 
   pub turn-written : (r : ℕ) (b′ l′ : List ℕ) → (at ≡ 0 → ⊥) → FillInv b₀ c sh l₀ b l at m → GaveTurn r b′ l′ b c sh l at m → r ≤ at
-  turn-written r b′ l′ z i g = omega (arith, g .count, turn-asks b c sh l at m b₀ l₀ z i .draws .room)
+  turn-written r b′ l′ z i g = omega (arith, g .count, turn-pre b c sh l at m b₀ l₀ z i .draws .room)
 
   pub turn-wanted : (r : ℕ) (b′ l′ : List ℕ) → GaveTurn r b′ l′ b c sh l at m → r ≤ m
   turn-wanted r b′ l′ g = omega (arith, g .count, latest-most b sh (get b (class partial c) - 1) m)
@@ -236,5 +236,5 @@ module _ (b₀ : List ℕ) (c : ℕ) (sh : Shape) (l₀ : List ℕ) (b l : List 
   turn-some r b′ l′ z i g = go (i .fuel) (i .count) (i .walks)
     where
       go : (k : ℕ) → at ≡ length (fillFrom b c sh k m .blocks) → walk (i .pages) b c sh k m (get b (class partial c)) 0 ≡ true → at - r < at
-      go zero e w = absurd (writes b c sh l at m (i .pages) zero z (i .asks) e w .0 refl)
-      go (suc k) e w = let t = turning b c sh l at m (i .pages) k z (i .asks) e w in omega (arith, g .count, t .some, z)
+      go zero e w = absurd (writes b c sh l at m (i .pages) zero z (i .pre) e w .0 refl)
+      go (suc k) e w = let t = turning b c sh l at m (i .pages) k z (i .pre) e w in omega (arith, g .count, t .some, z)

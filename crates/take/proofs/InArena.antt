@@ -25,14 +25,14 @@ use Rattle.pages.specs.Carve.{newRun}
 use Rattle.pages.specs.declared.Park.{Park}
 use Rattle.pages.specs.declared.Park.the-variants.{Empty, Cold}
 use Rattle.pages.proofs.Draws.{latest-below}
-use Rattle.calls.specs.Take.{Took, tookNone, walk, parkFair, fillFrom, unlistSpent, filled, fromPartial, fromPark, onRun, takeNew, takeBlocks, takeCall}
-use Rattle.take.specs.way.TakePlan.{TakeAsks, ParkedAsks, TakeRunAsks, walksFrom, fills, woken}
+use Rattle.calls.specs.Take.{Took, tookNone, walk, parkValid, fillFrom, unlistSpent, filled, fromPartial, fromPark, onRun, takeNew, takeBlocks, takeCall}
+use Rattle.take.specs.way.TakePlan.{TakePre, ParkedPre, TakeRunPre, walksFrom, fills, unparked}
 use Rattle.take.proofs.TakePages.{whole-below, positive}
 use Rattle.take.proofs.Walk.{stops, walk-step}
 use Rattle.take.proofs.Fill.{turned}
-use Rattle.take.proofs.TakeParked.{woken-asks, woken-walks}
+use Rattle.take.proofs.TakeParked.{unparked-pre, unparked-walks}
 use Rattle.take.proofs.TakeGranted.{commit-granted}
-use Rattle.take.proofs.TakeSteps.{linked-asks, linked-walks}
+use Rattle.take.proofs.TakeSteps.{linked-pre, linked-walks}
 
 pub record InArena (n : ℕ) (t : Took) : Type 0 where
   pub low : (i : ℕ) → i < t .count → granuleOf (getD (t .list) i 0) < 4096 * n
@@ -70,7 +70,7 @@ module _ (n : ℕ) (few : n ≤ maxPages) (c : ℕ) (sh : Shape) (sd : Sound sh)
       (λ e. rw e tt)
       (λ e.
       let q = get b (class partial c) - 1 in
-      let f = walk-step n b c sh k m (get b (class partial c)) 0 e w .fair in
+      let f = walk-step n b c sh k m (get b (class partial c)) 0 e w .valid in
       let t = turned n b hb c hc sh sd bound k m e w in
       rw e
       (all-append (Low n) (fillFrom (unlistSpent (draw b sh q m) c sh q) c sh k (m - length (latest b sh q m)) .blocks) (map (wordOf sh q) (latest b sh q m))
@@ -78,11 +78,11 @@ module _ (n : ℕ) (few : n ≤ maxPages) (c : ℕ) (sh : Shape) (sd : Sound sh)
       (words-low q (whole-below n b c sh q (f .run)) (latest b sh q m) (latest-below b sh q m (leb-true _ _ (f .within)) (f .entries)))))
 
   module _ (l : List ℕ) where
-    filled-low : (b : List ℕ) → TakeAsks n b c sh → walksFrom n b c sh ≡ true → InArena n (filled b c sh l)
+    filled-low : (b : List ℕ) → TakePre n b c sh → walksFrom n b c sh ≡ true → InArena n (filled b c sh l)
     filled-low b a w =
         record { low = λ i u. all-get n (fills b c sh .blocks) _ i (fill-low (lt-ltb c 76 (a .known)) (sh .batch) (sh .batch) b (le-leb (words n) (length b) (a .long)) (a .bound) w) u }
 
-    module _ (b : List ℕ) (a : TakeAsks n b c sh) where
+    module _ (b : List ℕ) (a : TakePre n b c sh) where
       partial-low : InArena n (fromPartial n b c sh l)
       unfolding fromPartial
       partial-low = either n (walksFrom n b c sh) (filled b c sh l) (tookNone b l 13) (filled-low b a) (λ e. none-taken)
@@ -91,8 +91,8 @@ module _ (n : ℕ) (few : n ≤ maxPages) (c : ℕ) (sh : Shape) (sd : Sound sh)
         park-low : (k : Park) → (get b (class (top k) c) ≡ 0 → ⊥) → InArena n (fromPark n b c sh k l)
         unfolding fromPark
         park-low k full =
-            let p : ParkedAsks n b c sh k = record { asks = a; alone = alone; some = positive (get b (class (top k) c)) full } in
-            either n (parkFair n b c sh k) (filled (woken b c k) c sh l) (tookNone b l 13) (λ w. filled-low (woken b c k) (woken-asks n b c sh k p w) (woken-walks n b c sh k p w)) (λ e. none-taken)
+            let p : ParkedPre n b c sh k = record { pre = a; alone = alone; some = positive (get b (class (top k) c)) full } in
+            either n (parkValid n b c sh k) (filled (unparked b c k) c sh l) (tookNone b l 13) (λ w. filled-low (unparked b c k) (unparked-pre n b c sh k p w) (unparked-walks n b c sh k p w)) (λ e. none-taken)
 
         run-low : (h : ℕ) (g : Option ℕ) → commitFor n b h (sh .pages) (suc c) .run ≡ g → InArena n (onRun (commitFor n b h (sh .pages) (suc c) .book) c sh l g)
         unfolding onRun
@@ -100,15 +100,15 @@ module _ (n : ℕ) (few : n ≤ maxPages) (c : ℕ) (sh : Shape) (sd : Sound sh)
         run-low h (some q) e =
             let d = commitFor n b h (sh .pages) (suc c) .book in
             let g = commit-granted n b (le-leb (words n) (length b) (a .long)) (sh .pages) (suc c) h q e in
-            let r : TakeRunAsks d c sh q = record {
+            let r : TakeRunPre d c sh q = record {
               pages = n;
-              asks = record { known = a .known; shape = sd; few = few; long = rw (g .long) (a .long); bound = g .bound };
+              pre = record { known = a .known; shape = sd; few = few; long = rw (g .long) (a .long); bound = g .bound };
               alone = g .rows c (lt-ltb c 76 (a .known)) ∙ alone;
               ends = g .ends;
               under = g .below;
               owners = g .owners;
             } in
-            filled-low (link (newRun d sh q) c q) (linked-asks d c sh q r) (linked-walks d c sh q r)
+            filled-low (link (newRun d sh q) c q) (linked-pre d c sh q r) (linked-walks d c sh q r)
 
         new-low : (h : ℕ) → InArena n (takeNew n b c sh h l)
         unfolding takeNew
@@ -120,7 +120,7 @@ module _ (n : ℕ) (few : n ≤ maxPages) (c : ℕ) (sh : Shape) (sd : Sound sh)
     unfolding takeBlocks
     blocks-low b h known long =
         either n (ltb n (get b (arena frontier))) (tookNone b l 13) _ (λ e. none-taken) (λ e.
-        let a : TakeAsks n b c sh = record { known = known; shape = sd; few = few; long = long; bound = ltb-false n (get b (arena frontier)) e } in
+        let a : TakePre n b c sh = record { known = known; shape = sd; few = few; long = long; bound = ltb-false n (get b (arena frontier)) e } in
         either n (not (eqb (get b (class partial c)) 0)) (fromPartial n b c sh l) _ (λ u. partial-low b a) (λ u.
         let alone = eqb-true (get b (class partial c)) 0 (not-false _ u) in
         either n (not (eqb (get b (class empty c)) 0)) (fromPark n b c sh Empty l) _ (λ v. park-low b a alone Empty (eqb-false (get b (class empty c)) 0 (not-true _ v))) (λ v.

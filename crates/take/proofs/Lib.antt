@@ -2,7 +2,7 @@ pub mod TakePages
 pub mod TakeDraws
 pub mod Walk
 pub mod Fill
-pub mod TopsSteps
+pub mod TopEntriesSteps
 pub mod PlanSteps
 pub mod FillSteps
 pub mod TakeAlone

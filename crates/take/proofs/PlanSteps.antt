@@ -12,14 +12,14 @@ use Rattle.facts.proofs.Bools.{by-cases, and-left, and-right}
 use Rattle.classes.specs.declared.Shape.{Shape}
 use Rattle.fields.specs.Field.{arena, class, page, frontier, partial, next, prev, free, carved, listed, virgin, words, Has, get}
 use Rattle.pages.specs.Runs.{whole}
-use Rattle.pages.specs.Stack.{tops, latest, hasMore}
+use Rattle.pages.specs.Stack.{topEntries, latest, hasMore}
 use Rattle.pages.proofs.Draws.{latest-length}
-use Rattle.pages.specs.Fair.{headerFair}
-use Rattle.pages.proofs.FairLaws.{carved-low, room-left}
+use Rattle.pages.specs.Valid.{headerValid}
+use Rattle.pages.proofs.ValidLaws.{carved-low, room-left}
 use Rattle.calls.specs.Take.{pageReady, sound, walk}
 use Rattle.take.specs.declared.take_plan.Plan.the-variants.{Refused, Fill}
-use Rattle.take.specs.way.TakePlan.{TakeAsks, TopsAsks, SupplyAsks, share, walksFrom, fills, Foretold}
-use Rattle.take.proofs.TakePages.{sound-fair, fair-sound, whole-below, latest-some, latest-most, positive}
+use Rattle.take.specs.way.TakePlan.{TakePre, TopEntriesPre, SupplyPre, share, walksFrom, fills, Foretold}
+use Rattle.take.proofs.TakePages.{sound-valid, valid-sound, whole-below, latest-some, latest-most, positive}
 use Rattle.take.proofs.Walk.{planned, planned-stops, planned-goes, stops, stops-full, stops-none, walk-stops, walk-step}
 use Rattle.take.proofs.Fill.{fill-planned}
 
@@ -44,10 +44,10 @@ module _ (b : List ℕ) (sh : Shape) (q : ℕ) where
   pub virgin-yes : (v : Bool) (x : ℕ) → v ≡ true → x ≡ get b (page virgin q) → eqb x 1 ≡ (v && eqb (get b (page virgin q)) 1)
   virgin-yes v x e h = rw (e, h)
 
-module _ (b : List ℕ) (sh : Shape) (l q : ℕ) (h : Bool) (i : h ≡ headerFair b sh 0 q) where
-  pub ready-unfair : not h ≡ true → false ≡ pageReady b sh l q
+module _ (b : List ℕ) (sh : Shape) (l q : ℕ) (h : Bool) (i : h ≡ headerValid b sh 0 q) where
+  pub ready-invalid : not h ≡ true → false ≡ pageReady b sh l q
   unfolding pageReady
-  ready-unfair t = rw (← i, not-true h t)
+  ready-invalid t = rw (← i, not-true h t)
 
   pub ready-unlisted : (x : ℕ) → x ≡ get b (page listed q) → (x ≡ l → ⊥) → false ≡ pageReady b sh l q
   unfolding pageReady
@@ -67,29 +67,29 @@ module _ (n : ℕ) (b : List ℕ) (c : ℕ) (sh : Shape) (l m q : ℕ) where
   unfolding sound
   sound-header w h e e′ f = simp (← e′, not-true h f, and-false)
 
-  pub sound-tops : (w h : Bool) (f k : ℕ) (r : Bool) → w ≡ whole n b sh c q → not w ≡ false → h ≡ pageReady b sh l q → not h ≡ false → f ≡ get b (page free q) → k ≡ get b (page carved q)
-      → r ≡ every (λ i. ltb i k) (tops b q m f) → r ≡ sound n b c sh l m q
+  pub sound-top-entries : (w h : Bool) (f k : ℕ) (r : Bool) → w ≡ whole n b sh c q → not w ≡ false → h ≡ pageReady b sh l q → not h ≡ false → f ≡ get b (page free q) → k ≡ get b (page carved q)
+      → r ≡ every (λ i. ltb i k) (topEntries b q m f) → r ≡ sound n b c sh l m q
   unfolding sound
-  sound-tops w h f k r e₁ t₁ e₂ t₂ e₃ e₄ e₅ = rw (← e₁, not-false w t₁, ← e₂, not-false h t₂, ← e₃, ← e₄) e₅
+  sound-top-entries w h f k r e₁ t₁ e₂ t₂ e₃ e₄ e₅ = rw (← e₁, not-false w t₁, ← e₂, not-false h t₂, ← e₃, ← e₄) e₅
 
-  pub run-there : (w : Bool) → TakeAsks n b c sh → w ≡ whole n b sh c q → not w ≡ false → words (q + 1) ≤ length b
+  pub run-there : (w : Bool) → TakePre n b c sh → w ≡ whole n b sh c q → not w ≡ false → words (q + 1) ≤ length b
   run-there w a e t = omega (arith, whole-below n b c sh q (sym e ∙ not-false w t), a .long, a .shape .paged)
 
-  pub run-free : (w : Bool) → TakeAsks n b c sh → w ≡ whole n b sh c q → not w ≡ false → Has b (page free q)
+  pub run-free : (w : Bool) → TakePre n b c sh → w ≡ whole n b sh c q → not w ≡ false → Has b (page free q)
   run-free w a e t = omega (arith, run-there w a e t)
 
-  pub run-carved : (w : Bool) → TakeAsks n b c sh → w ≡ whole n b sh c q → not w ≡ false → Has b (page carved q)
+  pub run-carved : (w : Bool) → TakePre n b c sh → w ≡ whole n b sh c q → not w ≡ false → Has b (page carved q)
   run-carved w a e t = omega (arith, run-there w a e t)
 
-  pub header-tops : (w h : Bool) (f : ℕ) → TakeAsks n b c sh → w ≡ whole n b sh c q → not w ≡ false → h ≡ pageReady b sh l q → not h ≡ false → f ≡ get b (page free q) → TopsAsks b q f
+  pub header-top-entries : (w h : Bool) (f : ℕ) → TakePre n b c sh → w ≡ whole n b sh c q → not w ≡ false → h ≡ pageReady b sh l q → not h ≡ false → f ≡ get b (page free q) → TopEntriesPre b q f
   unfolding pageReady
-  header-tops w h f a e t e′ t′ e″ =
-      let u = and-left (headerFair b sh 0 q) _ (sym e′ ∙ not-false h t′) in
+  header-top-entries w h f a e t e′ t′ e″ =
+      let u = and-left (headerValid b sh 0 q) _ (sym e′ ∙ not-false h t′) in
       record { there = run-there w a e t; slots = omega (arith, room-left b sh 0 q u, carved-low b sh 0 q u, a .shape .few) }
 
-  pub sound-supply : (s : Bool) → TakeAsks n b c sh → s ≡ sound n b c sh l m q → not s ≡ false → SupplyAsks b sh q
+  pub sound-supply : (s : Bool) → TakePre n b c sh → s ≡ sound n b c sh l m q → not s ≡ false → SupplyPre b sh q
   sound-supply s a e t =
-      let f = sound-fair n b c sh l m q (sym e ∙ not-false s t) in
+      let f = sound-valid n b c sh l m q (sym e ∙ not-false s t) in
       let x = leb-true (get b (page free q)) (get b (page carved q)) (f .stack) in
       let y = leb-true (get b (page carved q)) (sh .capacity) (f .within) in
       record { there = run-there (whole n b sh c q) a refl (rw (f .run)); some = omega (arith, a .shape .few); carved = y; few = a .shape .few }
@@ -195,14 +195,14 @@ module _ (n : ℕ) (b : List ℕ) (c : ℕ) (sh : Shape) where
       go zero l w p u = absurd (h (omega arith))
       go (suc k) l w p u = again k j code y left x v v′ h z l (i .within) w p u (found j left code y e o) (positive j o) ev ex
 
-  pub turn-there : (j m code y : ℕ) → TakeAsks n b c sh → j ≡ share n b c sh m code y → (j ≡ 0 → ⊥) → (code ≡ 0 → ⊥) → words (code - 1 + 1) ≤ length b
+  pub turn-there : (j m code y : ℕ) → TakePre n b c sh → j ≡ share n b c sh m code y → (j ≡ 0 → ⊥) → (code ≡ 0 → ⊥) → words (code - 1 + 1) ≤ length b
   turn-there j m code y a e h z = omega (arith, leb-true code (get b (arena frontier)) (found j m code y e h .below), a .bound, a .long, z)
 
-  pub turn-next : (j m code y : ℕ) → TakeAsks n b c sh → j ≡ share n b c sh m code y → (j ≡ 0 → ⊥) → (code ≡ 0 → ⊥) → Has b (page next (code - 1))
+  pub turn-next : (j m code y : ℕ) → TakePre n b c sh → j ≡ share n b c sh m code y → (j ≡ 0 → ⊥) → (code ≡ 0 → ⊥) → Has b (page next (code - 1))
   turn-next j m code y a e h z = omega (arith, turn-there j m code y a e h z)
 
   -- ---- the ends
-  ends : (code y left : ℕ) (v : Bool) → TakeAsks n b c sh → PlanInv code y left v → stops left code ≡ true
+  ends : (code y left : ℕ) (v : Bool) → TakePre n b c sh → PlanInv code y left v → stops left code ≡ true
       → Foretold (cond (leb code (get b (arena frontier))) (Fill (sh .batch - left) v) (Refused 13)) (walksFrom n b c sh) (fills b c sh)
   ends code y left v a i s =
       let g = planned-stops b sh (i .fuel) left code s in
@@ -219,10 +219,10 @@ module _ (n : ℕ) (b : List ℕ) (c : ℕ) (sh : Shape) where
       and-true true = refl
       and-true false = refl
 
-  pub plan-empty : (code y left : ℕ) (v : Bool) → TakeAsks n b c sh → PlanInv code y left v → code ≡ 0 → Foretold (Fill (sh .batch - left) v) (walksFrom n b c sh) (fills b c sh)
+  pub plan-empty : (code y left : ℕ) (v : Bool) → TakePre n b c sh → PlanInv code y left v → code ≡ 0 → Foretold (Fill (sh .batch - left) v) (walksFrom n b c sh) (fills b c sh)
   plan-empty code y left v a i z = rw (le-leb code (get b (arena frontier)) (omega arith)) at (ends code y left v a i (stops-none left code z))
 
-  module _ (code y left f : ℕ) (v : Bool) (a : TakeAsks n b c sh) (z : left ≡ 0) (i : PlanInv code y left v) (e : f ≡ get b (arena frontier)) where
+  module _ (code y left f : ℕ) (v : Bool) (a : TakePre n b c sh) (z : left ≡ 0) (i : PlanInv code y left v) (e : f ≡ get b (arena frontier)) where
     pub plan-above : f < code → Foretold (Refused 13) (walksFrom n b c sh) (fills b c sh)
     plan-above l = rw (lt-leb code (get b (arena frontier)) (omega arith)) at (ends code y left v a i (stops-full left code z))
 
@@ -237,8 +237,8 @@ module _ (n : ℕ) (b : List ℕ) (c : ℕ) (sh : Shape) where
   fails zero j m code y h l z e o w = h (omega arith)
   fails (suc k) j m code y h l z e o w =
       let s = walk-step n b c sh k m code y (goes m code h z) w in
-      let some = latest-some b sh (code - 1) m h (s .fair .more) in
-      let t : share n b c sh m code y ≡ length (latest b sh (code - 1) m) = rw (s .below, s .before, eq-eqb y y refl, fair-sound n b c sh 1 m (code - 1) (s .fair)) in
+      let some = latest-some b sh (code - 1) m h (s .valid .more) in
+      let t : share n b c sh m code y ≡ length (latest b sh (code - 1) m) = rw (s .below, s .before, eq-eqb y y refl, valid-sound n b c sh 1 m (code - 1) (s .valid)) in
       omega (arith, some, sym e ∙ o, t)
 
   pub plan-fails : (code y left j : ℕ) (v : Bool) → (left ≡ 0 → ⊥) → PlanInv code y left v → (code ≡ 0 → ⊥) → j ≡ share n b c sh left code y → j ≡ 0 → Foretold (Refused 13) (walksFrom n b c sh) (fills b c sh)

@@ -19,7 +19,7 @@ use Rattle.pages.specs.Stack.{latest}
 use Rattle.pages.specs.Links.{linked, link}
 use Rattle.pages.proofs.Frames.{changes-link}
 use Rattle.calls.specs.Take.{walk}
-use Rattle.take.proofs.TakePages.{Fair, Alike, fair-alike, latest-alike}
+use Rattle.take.proofs.TakePages.{Valid, Alike, valid-alike, latest-alike}
 use Rattle.take.proofs.Walk.{plannedNone, thenPlanned, planned, planned-stops, planned-goes, stops, stops-none, walk-stops, step-walk}
 
 abbrev pub isLinked : ℕ → ℕ → Field → Bool
@@ -66,7 +66,7 @@ module _ (n : ℕ) (b : List ℕ) (hb : leb (words n) (length b) ≡ true) (c : 
         slots = λ i o. k .kept (slot q i) o refl;
       }
 
-  module _ (sh : Shape) (few : sh .capacity ≤ 4096) (l m k : ℕ) (f : Fair n b c sh l m q) (wanted : m ≡ 0 → ⊥) (bound : suc q ≤ get b (arena frontier)) where
+  module _ (sh : Shape) (few : sh .capacity ≤ 4096) (l m k : ℕ) (f : Valid n b c sh l m q) (wanted : m ≡ 0 → ⊥) (bound : suc q ≤ get b (arena frontier)) where
     pred : suc q - 1 ≡ q
     pred = omega arith
 
@@ -79,7 +79,7 @@ module _ (n : ℕ) (b : List ℕ) (hb : leb (words n) (length b) ≡ true) (c : 
         (step-walk n (link b c q) c sh k m (suc q) 0 goes (record {
           below = le-leb (suc q) (get (link b c q) (arena frontier)) (rw (link-alike .frontier) bound);
           before = rw pred link-prev;
-          fair = rw pred (fair-alike b (link b c q) q link-alike n c sh l 1 m few link-listed f);
+          valid = rw pred (valid-alike b (link b c q) q link-alike n c sh l 1 m few link-listed f);
           rest = rw (pred, link-next) (walk-stops n (link b c q) c sh k (m - length (latest (link b c q) sh q m)) 0 (suc q) (stops-none (m - length (latest (link b c q) sh q m)) 0 refl) ∙ le-leb 0 (get (link b c q) (arena frontier)) (omega arith));
         }))
 
@@ -95,7 +95,7 @@ module _ (n : ℕ) (b : List ℕ) (hb : leb (words n) (length b) ≡ true) (c : 
         both j true = ap (λ z. record { count = z; virgin = true }) (omega arith)
         both j false = ap (λ z. record { count = z; virgin = false }) (omega arith)
 
-  module _ (sh : Shape) (few : sh .capacity ≤ 4096) (l m : ℕ) (f : Fair n b c sh l m q) (wanted : m ≡ 0 → ⊥) (bound : suc q ≤ get b (arena frontier)) where
+  module _ (sh : Shape) (few : sh .capacity ≤ 4096) (l m : ℕ) (f : Valid n b c sh l m q) (wanted : m ≡ 0 → ⊥) (bound : suc q ≤ get b (arena frontier)) where
     pub alone-walks : (k : ℕ) → 1 ≤ k → walk n (link b c q) c sh k m (get (link b c q) (class partial c)) 0 ≡ true
     alone-walks zero h = absurd (omega arith)
     alone-walks (suc k) h = walks-suc sh few l m k f wanted bound

@@ -13,10 +13,10 @@ use Rattle.facts.specs.Lists.{every}
 use Rattle.facts.proofs.Bools.{by-cases}
 use Rattle.classes.specs.declared.Shape.{Shape}
 use Rattle.fields.specs.Field.{page, free, carved, get, words}
-use Rattle.pages.specs.Stack.{tops, latest, draw, hasMore}
-use Rattle.pages.proofs.Downs.{small, every-below}
+use Rattle.pages.specs.Stack.{topEntries, latest, draw, hasMore}
+use Rattle.pages.proofs.Descending.{small, every-below}
 use Rattle.pages.proofs.Draws.{latest-length, latest-below, draw-free, draw-carved}
-use Rattle.take.proofs.TakePages.{Fair}
+use Rattle.take.proofs.TakePages.{Valid}
 
 over : (f m : ℕ) → (f - m ≡ 0 → ⊥) → m < f
 over f m z = omega (arith, z)
@@ -37,10 +37,10 @@ full-of m f k top l e =
     le-of f m e = omega arith
 
 pub latest-small : (b : List ℕ) (sh : Shape) (m q : ℕ) → sh .capacity ≤ 4096 → get b (page carved q) ≤ sh .capacity
-    → every (λ i. ltb i (get b (page carved q))) (tops b q m (get b (page free q))) ≡ true → every small (latest b sh q m) ≡ true
+    → every (λ i. ltb i (get b (page carved q))) (topEntries b q m (get b (page free q))) ≡ true → every small (latest b sh q m) ≡ true
 latest-small b sh m q few within entries = every-below (sh .capacity) 4096 few (latest b sh q m) (latest-below b sh q m within entries)
 
-module _ (n : ℕ) (b : List ℕ) (hb : leb (words n) (length b) ≡ true) (c : ℕ) (sh : Shape) (l m q : ℕ) (hq : ltb q n ≡ true) (f : Fair n b c sh l m q) where
+module _ (n : ℕ) (b : List ℕ) (hb : leb (words n) (length b) ≡ true) (c : ℕ) (sh : Shape) (l m q : ℕ) (hq : ltb q n ≡ true) (f : Valid n b c sh l m q) where
   pub draw-full : hasMore (draw b sh q m) sh q ≡ true → length (latest b sh q m) ≡ m
   unfolding hasMore
   draw-full e =

@@ -22,12 +22,12 @@ use Rattle.runs.specs.declared.Arena.{Arena}
 use Rattle.arena.specs.Load.{loadHole}
 use Rattle.arena.specs.Store.{storeHole, storeCounts, storeTop}
 use Rattle.runs.specs.way.Record.{recordOf, storeRecord, advanced, counted}
-use Rattle.arena.specs.Fair.{recordFair}
+use Rattle.arena.specs.Valid.{recordValid}
 use Rattle.arena.specs.Owners.{own}
 use Rattle.arena.specs.Calls.{Committed, commitRefused, commitFor}
 use Rattle.runs.specs.way.Act.{withState, drawWords, drawRecord, endNone, endRun, endGiven, settle, fromFrontier, holeDrawn, commitDrawn, nextState, commitPlanned, planned, commitRead, commitActs}
 use Rattle.arena.proofs.Frames.{isStored, isOwner, record-changes, own-changes}
-use Rattle.runs.proofs.Acts.{FairRecord, fair-record, commit-acts}
+use Rattle.runs.proofs.Acts.{ValidRecord, valid-record, commit-acts}
 use Rattle.runs.proofs.PlanLaws.{plan-fits}
 
 pub record Granted (n : ℕ) (b b′ : List ℕ) (m q w : ℕ) : Type 0 where
@@ -136,16 +136,16 @@ module _ (n : ℕ) (b : List ℕ) (hb : leb (words n) (length b) ≡ true) (m w 
         (λ t. rw t (no-run (endNone b (withState (nextState (a .state) h) a)) refl))
         (λ t. rw t (drawn-granted (withState (nextState (a .state) h) a) c u fits))
 
-    read-granted : FairRecord n b → Grants (commitRead n b h m w d)
+    read-granted : ValidRecord n b → Grants (commitRead n b h m w d)
     unfolding commitRead
     read-granted k =
-        either (planned b m .fair) (commitPlanned n b (recordOf b) (planned b m .code) m h w d) (commitRefused b 13)
+        either (planned b m .valid) (commitPlanned n b (recordOf b) (planned b m .code) m h w d) (commitRefused b 13)
         (λ t. planned-granted (recordOf b) (planned b m .code) (k .frontier) (λ z. let f = plan-fits b m (planned b m) refl t z in (omega (arith, f .stored, k .holes), omega (arith, f .enough, f .ends))))
         (no-run (commitRefused b 13) refl)
 
   acts-granted : (h : ℕ) → Grants (commitActs n b h m w)
   unfolding commitActs
-  acts-granted h = by-cases (recordFair n b) (λ t. rw t (read-granted h (get b (arena held)) (fair-record n b t))) (λ t. rw t (no-run (commitRefused b 13) refl))
+  acts-granted h = by-cases (recordValid n b) (λ t. rw t (read-granted h (get b (arena held)) (valid-record n b t))) (λ t. rw t (no-run (commitRefused b 13) refl))
 
   pub commit-granted : (h q : ℕ) → commitFor n b h m w .run ≡ some q → Granted n b (commitFor n b h m w .book) m q w
   commit-granted h q e =

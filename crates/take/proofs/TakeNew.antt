@@ -18,14 +18,14 @@ use Rattle.facts.specs.Lists as Lists
 use Rattle.model.specs.Page.{isMedium}
 use Rattle.words.specs.Host.{digit}
 use Rattle.pages.specs.Runs.{ofRun, whole}
-use Rattle.pages.specs.Stack.{tops, downs, push, hasMore}
+use Rattle.pages.specs.Stack.{topEntries, descending, push, hasMore}
 use Rattle.pages.specs.Carve.{stocked, carveAnew, bareRun, newRun}
-use Rattle.pages.proofs.Downs.{length-downs, downs-below, every-append, every-below}
-use Rattle.pages.proofs.Tops.{tops-cut, tops-fewer, tops-kept}
-use Rattle.pages.proofs.Pushes.{length-push, tops-push}
+use Rattle.pages.proofs.Descending.{length-descending, descending-below, every-append, every-below}
+use Rattle.pages.proofs.TopEntries.{top-entries-cut, top-entries-fewer, top-entries-kept}
+use Rattle.pages.proofs.Pushes.{length-push, top-entries-push}
 use Rattle.pages.proofs.Frames.{changes-new, changes-carve}
 use Rattle.pages.proofs.NewRun.{new-names, bare-long, bare-listed}
-use Rattle.take.proofs.TakePages.{Fair}
+use Rattle.take.proofs.TakePages.{Valid}
 
 -- ---- what carving leaves
 pub stocked-le : (sh : Shape) → stocked sh ≤ sh .capacity
@@ -36,11 +36,11 @@ module _ (n : ℕ) (b : List ℕ) (hb : leb (words n) (length b) ≡ true) (sh :
   k = stocked sh
 
   pushed : List ℕ
-  pushed = push b q 0 (downs 0 k)
+  pushed = push b q 0 (descending 0 k)
 
   pushed-long : leb (words n) (length pushed) ≡ true
   unfolding pushed
-  pushed-long = rw (length-push b q 0 (downs 0 k)) hb
+  pushed-long = rw (length-push b q 0 (descending 0 k)) hb
 
   carve-is : carveAnew b sh q v ≡ put (put (put pushed (page virgin q) (digit v)) (page carved q) k) (page free q) k
   unfolding carveAnew pushed
@@ -59,22 +59,22 @@ module _ (n : ℕ) (b : List ℕ) (hb : leb (words n) (length b) ≡ true) (sh :
   carve-slot i h = rw carve-is (simp get-put-other)
 
   -- the stack holds the blocks below what is carved
-  all-below : every (λ i. ltb i k) (tops (carveAnew b sh q v) q k k) ≡ true
+  all-below : every (λ i. ltb i k) (topEntries (carveAnew b sh q v) q k k) ≡ true
   unfolding pushed
   all-below =
-      let l = length-downs 0 k in
+      let l = length-descending 0 k in
       let le = stocked-le sh in
-      let kept : tops (carveAnew b sh q v) q k k ≡ tops pushed q k k = tops-kept pushed (carveAnew b sh q v) q k k (λ i h. carve-slot i (lt-ltb i 4096 (omega arith))) in
-      let laid : tops (push b q 0 (downs 0 k)) q (length (downs 0 k) + 0) (length (downs 0 k) + 0) ≡ downs 0 k ++ tops b q 0 0 =
-      tops-push n b hb q hq 0 (downs 0 k) (omega arith) (every-below k 4096 (omega arith) (downs 0 k) (downs-below 0 k k (omega arith))) in
-      let same : length (downs 0 k) + 0 ≡ k = omega arith in
-      let laid′ : tops (push b q 0 (downs 0 k)) q k k ≡ downs 0 k ++ [] = rw same at laid in
-      rw (kept, laid′) (every-append (λ i. ltb i k) (downs 0 k) [] (downs-below 0 k k (omega arith)) refl)
+      let kept : topEntries (carveAnew b sh q v) q k k ≡ topEntries pushed q k k = top-entries-kept pushed (carveAnew b sh q v) q k k (λ i h. carve-slot i (lt-ltb i 4096 (omega arith))) in
+      let laid : topEntries (push b q 0 (descending 0 k)) q (length (descending 0 k) + 0) (length (descending 0 k) + 0) ≡ descending 0 k ++ topEntries b q 0 0 =
+      top-entries-push n b hb q hq 0 (descending 0 k) (omega arith) (every-below k 4096 (omega arith) (descending 0 k) (descending-below 0 k k (omega arith))) in
+      let same : length (descending 0 k) + 0 ≡ k = omega arith in
+      let laid′ : topEntries (push b q 0 (descending 0 k)) q k k ≡ descending 0 k ++ [] = rw same at laid in
+      rw (kept, laid′) (every-append (λ i. ltb i k) (descending 0 k) [] (descending-below 0 k k (omega arith)) refl)
 
-  pub carve-entries : (m : ℕ) → every (λ i. ltb i k) (tops (carveAnew b sh q v) q m k) ≡ true
+  pub carve-entries : (m : ℕ) → every (λ i. ltb i k) (topEntries (carveAnew b sh q v) q m k) ≡ true
   carve-entries m =
-      rw (← (tops-cut (carveAnew b sh q v) q (min m k) m k refl))
-      (tops-fewer (carveAnew b sh q v) q (λ i. ltb i k) (min m k) k k (omega arith) all-below)
+      rw (← (top-entries-cut (carveAnew b sh q v) q (min m k) m k refl))
+      (top-entries-fewer (carveAnew b sh q v) q (λ i. ltb i k) (min m k) k k (omega arith) all-below)
 
 -- ---- a new run
 abbrev isCarved : Field → Bool
@@ -137,8 +137,8 @@ module _ (n : ℕ) (b : List ℕ) (hb : leb (words n) (length b) ≡ true) (c : 
   pub new-carved : get (newRun b sh q) (page carved q) ≡ stocked sh
   new-carved = rw new-is (carve-carved n bare bare-there sh (sd .few) q hq true)
 
-  pub new-fair : (m : ℕ) → Fair n (newRun b sh q) c sh 0 m q
-  new-fair m =
+  pub new-valid : (m : ℕ) → Valid n (newRun b sh q) c sh 0 m q
+  new-valid m =
       let fr = new-free in
       let ca = new-carved in
       let vi = ap (λ z. get z (page virgin q)) new-is ∙ carve-virgin n bare bare-there sh (sd .few) q hq true in

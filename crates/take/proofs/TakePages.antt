@@ -1,5 +1,5 @@
 -- A page that a take's plan found sound: what the test says, and that other books with the same words of the page pass it too.
---     Fair          what `sound` tests, by name
+--     Valid         what `sound` tests, by name
 --     Alike         two books agree on the owners and first pages, the frontier, and a page's counts, flag and stack
 --     sound-alike   the test passes on both, or on neither
 use Prim.Native.Nat.{ℕ, zero, suc, _+_, _-_, _≤_, _<_, min}
@@ -15,29 +15,29 @@ use Rattle.facts.proofs.Bools.{by-cases, and-left, and-right}
 use Rattle.classes.specs.declared.Shape.{Shape}
 use Rattle.fields.specs.Field.{arena, page, slot, frontier, owner, first, free, carved, listed, virgin, get}
 use Rattle.pages.specs.Runs.{ofRun, whole}
-use Rattle.pages.specs.Stack.{tops, latest, hasMore}
-use Rattle.pages.proofs.Tops.{tops-kept}
+use Rattle.pages.specs.Stack.{topEntries, latest, hasMore}
+use Rattle.pages.proofs.TopEntries.{top-entries-kept}
 use Rattle.pages.proofs.Draws.{latest-length}
-use Rattle.pages.specs.Fair.{headerFair}
-use Rattle.pages.proofs.FairLaws.{carved-low, room-left, virgin-low, header-passes}
+use Rattle.pages.specs.Valid.{headerValid}
+use Rattle.pages.proofs.ValidLaws.{carved-low, room-left, virgin-low, header-passes}
 use Rattle.calls.specs.Take.{pageReady, sound}
 
-pub record Fair (n : ℕ) (b : List ℕ) (c : ℕ) (sh : Shape) (l m q : ℕ) : Type 0 where
+pub record Valid (n : ℕ) (b : List ℕ) (c : ℕ) (sh : Shape) (l m q : ℕ) : Type 0 where
   pub run : whole n b sh c q ≡ true
   pub listing : eqb (get b (page listed q)) l ≡ true
   pub stack : leb (get b (page free q)) (get b (page carved q)) ≡ true
   pub within : leb (get b (page carved q)) (sh .capacity) ≡ true
   pub clean : leb (get b (page virgin q)) 1 ≡ true
   pub more : hasMore b sh q ≡ true
-  pub entries : every (λ i. ltb i (get b (page carved q))) (tops b q m (get b (page free q))) ≡ true
+  pub entries : every (λ i. ltb i (get b (page carved q))) (topEntries b q m (get b (page free q))) ≡ true
 
-pub sound-fair : (n : ℕ) (b : List ℕ) (c : ℕ) (sh : Shape) (l m q : ℕ) → sound n b c sh l m q ≡ true → Fair n b c sh l m q
+pub sound-valid : (n : ℕ) (b : List ℕ) (c : ℕ) (sh : Shape) (l m q : ℕ) → sound n b c sh l m q ≡ true → Valid n b c sh l m q
 unfolding sound pageReady
-sound-fair n b c sh l m q e =
+sound-valid n b c sh l m q e =
     let e₁ = and-right (whole n b sh c q) _ e in
     let e₂ = and-left (pageReady b sh l q) _ e₁ in
-    let h = and-left (headerFair b sh 0 q) _ e₂ in
-    let e₃ = and-right (headerFair b sh 0 q) _ e₂ in
+    let h = and-left (headerValid b sh 0 q) _ e₂ in
+    let e₃ = and-right (headerValid b sh 0 q) _ e₂ in
     record {
       run = and-left _ _ e;
       listing = and-left _ _ e₃;
@@ -48,9 +48,9 @@ sound-fair n b c sh l m q e =
       entries = and-right (pageReady b sh l q) _ e₁;
     }
 
-pub fair-sound : (n : ℕ) (b : List ℕ) (c : ℕ) (sh : Shape) (l m q : ℕ) → Fair n b c sh l m q → sound n b c sh l m q ≡ true
+pub valid-sound : (n : ℕ) (b : List ℕ) (c : ℕ) (sh : Shape) (l m q : ℕ) → Valid n b c sh l m q → sound n b c sh l m q ≡ true
 unfolding sound pageReady
-fair-sound n b c sh l m q f =
+valid-sound n b c sh l m q f =
     let x = leb-true (get b (page free q)) (get b (page carved q)) (f .stack) in
     let h = header-passes b sh 0 q (leb-true (get b (page carved q)) (sh .capacity) (f .within)) (omega arith) (leb-true (get b (page virgin q)) 1 (f .clean)) in
     rw (f .run, h, f .listing, f .more) (f .entries)
@@ -79,8 +79,8 @@ module _ (b b′ : List ℕ) (q : ℕ) (h : Alike b b′ q) where
   unfolding whole
   whole-alike n c sh = rw (h .frontier, run-alike c (sh .pages))
 
-  pub tops-alike : (m t : ℕ) → t ≤ 4096 → tops b′ q m t ≡ tops b q m t
-  tops-alike m t l = tops-kept b b′ q m t (λ i h. h′ i (lt-ltb i 4096 (omega arith)))
+  pub top-entries-alike : (m t : ℕ) → t ≤ 4096 → topEntries b′ q m t ≡ topEntries b q m t
+  top-entries-alike m t l = top-entries-kept b b′ q m t (λ i h. h′ i (lt-ltb i 4096 (omega arith)))
     where
       h′ : (i : ℕ) → ltb i 4096 ≡ true → get b′ (slot q i) ≡ get b (slot q i)
       h′ = h .slots
@@ -91,10 +91,10 @@ module _ (b b′ : List ℕ) (q : ℕ) (h : Alike b b′ q) where
 
   pub latest-alike : (sh : Shape) (m : ℕ) → get b (page free q) ≤ 4096 → latest b′ sh q m ≡ latest b sh q m
   unfolding latest
-  latest-alike sh m l = rw (h .free, h .carved, tops-alike m (get b (page free q)) l)
+  latest-alike sh m l = rw (h .free, h .carved, top-entries-alike m (get b (page free q)) l)
 
-  pub fair-alike : (n c : ℕ) (sh : Shape) (l l′ m : ℕ) → sh .capacity ≤ 4096 → get b′ (page listed q) ≡ l′ → Fair n b c sh l m q → Fair n b′ c sh l′ m q
-  fair-alike n c sh l l′ m few e f =
+  pub valid-alike : (n c : ℕ) (sh : Shape) (l l′ m : ℕ) → sh .capacity ≤ 4096 → get b′ (page listed q) ≡ l′ → Valid n b c sh l m q → Valid n b′ c sh l′ m q
+  valid-alike n c sh l l′ m few e f =
       let t : get b (page free q) ≤ 4096 = omega (arith, leb-true) in
       record {
         run = whole-alike n c sh ∙ f .run;
@@ -103,7 +103,7 @@ module _ (b b′ : List ℕ) (q : ℕ) (h : Alike b b′ q) where
         within = rw (h .carved) (f .within);
         clean = rw (h .virgin) (f .clean);
         more = more-alike sh ∙ f .more;
-        entries = rw (h .free, h .carved, tops-alike m (get b (page free q)) t) (f .entries);
+        entries = rw (h .free, h .carved, top-entries-alike m (get b (page free q)) t) (f .entries);
       }
 
 -- ---- how many blocks a page gives

@@ -12,12 +12,12 @@ use Rattle.classes.specs.declared.Shape.{Shape}
 use Rattle.classes.specs.Shape.{shapeOf}
 use Rattle.classes.proofs.Shapes.{shape-sound}
 use Rattle.fields.specs.Field.{arena, class, frontier, partial, empty, cold, get}
-use Rattle.pages.specs.Links.{link, top, wake}
+use Rattle.pages.specs.Links.{link, top, unparkRun}
 use Rattle.pages.specs.Carve.{newRun}
 use Rattle.pages.specs.declared.Park.{Park}
 use Rattle.pages.specs.declared.Park.the-variants.{Empty, Cold}
 use Rattle.arena.specs.Calls.{commitFor}
-use Rattle.calls.specs.Take.{Took, Filled, tookNone, took, walk, parkFair, fillFrom, filled, fromPartial, fromPark, onRun, takeNew, takeBlocks, takeCall}
+use Rattle.calls.specs.Take.{Took, Filled, tookNone, took, walk, parkValid, fillFrom, filled, fromPartial, fromPark, onRun, takeNew, takeBlocks, takeCall}
 use Rattle.take.proofs.Fill.{fill-most}
 
 pub record Spares (b : List ℕ) (t : Took) : Type 0 where
@@ -47,8 +47,8 @@ module _ (n : ℕ) (b : List ℕ) (c : ℕ) (sh : Shape) (limited : sh .batch �
   park-spares : (k : Park) → Spares b (fromPark n b c sh k l)
   unfolding fromPark
   park-spares k =
-      let d = wake b c k (get b (class (top k) c) - 1) in
-      either b (parkFair n b c sh k) (filled d c sh l) (tookNone b l 13) (fill-spares d) none-taken
+      let d = unparkRun b c k (get b (class (top k) c) - 1) in
+      either b (parkValid n b c sh k) (filled d c sh l) (tookNone b l 13) (fill-spares d) none-taken
 
   run-spares : (d : List ℕ) (r : Option ℕ) → Spares b (onRun d c sh l r)
   unfolding onRun

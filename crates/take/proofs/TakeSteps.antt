@@ -19,32 +19,32 @@ use Rattle.fields.specs.Ranges.{maxPages}
 use Rattle.fields.proofs.Changes.{Changes}
 use Rattle.runs.specs.declared.Commit as Commit
 use Rattle.runs.specs.declared.Commit.the-variants as Made
-use Rattle.arena.specs.Fair.{commitFair}
+use Rattle.arena.specs.Valid.{commitValid}
 use Rattle.arena.specs.Calls.{Committed, commitRefused, commitFor}
 use Rattle.runs.specs.Answer as Arena
 use Rattle.runs.specs.Answer.{Answers}
 use Rattle.runs.specs.way.Found.{hasRun, Finds}
 use Rattle.pages.specs.Stack.{latest}
-use Rattle.pages.specs.Links.{link, top, wake}
+use Rattle.pages.specs.Links.{link, top, unparkRun}
 use Rattle.pages.specs.Carve.{stocked, newRun}
 use Rattle.pages.specs.declared.Park.{Park}
 use Rattle.pages.specs.declared.Park.the-variants.{Empty, Cold}
-use Rattle.pages.specs.way.Asks.{RowAsks, WakeAsks, LinkAsks, NewAsks}
+use Rattle.pages.specs.way.Pre.{RowPre, UnparkRunPre, LinkPre, NewPre}
 use Rattle.pages.proofs.Draws.{latest-length}
 use Rattle.take.specs.declared.call.Take as Taken
 use Rattle.take.specs.declared.call.Take.the-variants as Answer
 use Rattle.take.specs.declared.take_plan.Plan.{Plan}
 use Rattle.take.specs.declared.take_plan.Plan.the-variants.{Refused, Nothing, Fill}
-use Rattle.calls.specs.Take.{parkFair, Took, fromPartial, fromPark, onRun, takeNew, takeBlocks, takeCall}
-use Rattle.take.specs.way.TakePlan.{TakeAsks, TakeRunAsks, TakeNewAsks, SourceAsks, BlocksAsks, CallAsks, walksFrom, fills, Foretold, ParkedAsks, firstStore, woken, readied, FirstAsks, FillAsks, Filling}
+use Rattle.calls.specs.Take.{parkValid, Took, fromPartial, fromPark, onRun, takeNew, takeBlocks, takeCall}
+use Rattle.take.specs.way.TakePlan.{TakePre, TakeRunPre, TakeNewPre, SourcePre, BlocksPre, CallPre, walksFrom, fills, Foretold, ParkedPre, firstStore, unparked, readied, FirstPre, FillPre, Filling}
 use Rattle.take.specs.way.TakeAnswer.{Takes, Serves, Readies, Plans, Counts, onRunAt}
 use Rattle.take.specs.Answer.{answerOf}
-use Rattle.take.proofs.TakePages.{Fair}
+use Rattle.take.proofs.TakePages.{Valid}
 use Rattle.take.proofs.Fill.{fill-most, foreseen, fill-planned}
 use Rattle.take.proofs.TakeAlone.{link-changes, alone-walks, alone-planned}
-use Rattle.take.proofs.TakeNew.{isNew, stocked-le, new-changes, new-free, new-carved, new-fair, new-virgin}
+use Rattle.take.proofs.TakeNew.{isNew, stocked-le, new-changes, new-free, new-carved, new-valid, new-virgin}
 use Rattle.take.proofs.TakeGranted.{commit-granted}
-use Rattle.take.proofs.TakeParked.{parked-wakes, woken-asks, woken-walks}
+use Rattle.take.proofs.TakeParked.{parked-unparks, unparked-pre, unparked-walks}
 
 -- another way to say the same take
 said : {f g : List ℕ → Took} → ((l : List ℕ) → f l ≡ g l) → f ≡ g
@@ -52,27 +52,27 @@ said h = λ i. λ l. h l i
 
 -- ---- a run of the arena
 module _ (b : List ℕ) (c : ℕ) (sh : Shape) (q : ℕ) where
-  pub run-new : TakeRunAsks b c sh q → NewAsks b sh q
-  run-new a = record { sound = a .asks .shape; below = omega (arith, a .ends, a .asks .few); there = omega (arith, a .ends, a .asks .long) }
+  pub run-new : TakeRunPre b c sh q → NewPre b sh q
+  run-new a = record { sound = a .pre .shape; below = omega (arith, a .ends, a .pre .few); there = omega (arith, a .ends, a .pre .long) }
 
-  module _ (a : TakeRunAsks b c sh q) where
+  module _ (a : TakeRunPre b c sh q) where
     abbrev n : ℕ
     n = a .pages
 
     hb : leb (words n) (length b) ≡ true
-    hb = le-leb (words n) (length b) (a .asks .long)
+    hb = le-leb (words n) (length b) (a .pre .long)
 
     hc : ltb c 76 ≡ true
-    hc = lt-ltb c 76 (a .asks .known)
+    hc = lt-ltb c 76 (a .pre .known)
 
     in-arena : q < n
-    in-arena = omega (arith, a .ends, a .asks .shape .paged)
+    in-arena = omega (arith, a .ends, a .pre .shape .paged)
 
     changes : Changes isNew b (newRun b sh q)
-    changes = new-changes n b hb c sh (a .asks .shape) q (a .ends) (a .under) (a .owners)
+    changes = new-changes n b hb c sh (a .pre .shape) q (a .ends) (a .under) (a .owners)
 
-    fair : Fair n (newRun b sh q) c sh 0 (sh .batch) q
-    fair = new-fair n b hb c sh (a .asks .shape) q (a .ends) (a .under) (a .owners) (sh .batch)
+    valid : Valid n (newRun b sh q) c sh 0 (sh .batch) q
+    valid = new-valid n b hb c sh (a .pre .shape) q (a .ends) (a .under) (a .owners) (sh .batch)
 
     alone : get (newRun b sh q) (class partial c) ≡ 0
     alone = changes .kept (class partial c) hc refl ∙ a .alone
@@ -80,60 +80,60 @@ module _ (b : List ℕ) (c : ℕ) (sh : Shape) (q : ℕ) where
     long₁ : leb (words n) (length (newRun b sh q)) ≡ true
     long₁ = rw (changes .long) hb
 
-    pub linked-asks : TakeAsks n (link (newRun b sh q) c q) c sh
-    linked-asks =
+    pub linked-pre : TakePre n (link (newRun b sh q) c q) c sh
+    linked-pre =
         let v = link-changes n (newRun b sh q) long₁ c hc q (lt-ltb q n in-arena) alone in
         record {
-          known = a .asks .known;
-          shape = a .asks .shape;
-          few = a .asks .few;
-          long = rw (v .long, changes .long) (a .asks .long);
-          bound = rw (v .kept (arena frontier) refl refl, changes .kept (arena frontier) refl refl) (a .asks .bound);
+          known = a .pre .known;
+          shape = a .pre .shape;
+          few = a .pre .few;
+          long = rw (v .long, changes .long) (a .pre .long);
+          bound = rw (v .kept (arena frontier) refl refl, changes .kept (arena frontier) refl refl) (a .pre .bound);
         }
 
     under₁ : suc q ≤ get (newRun b sh q) (arena frontier)
-    under₁ = rw (changes .kept (arena frontier) refl refl) (omega (arith, a .under, a .asks .shape .paged))
+    under₁ = rw (changes .kept (arena frontier) refl refl) (omega (arith, a .under, a .pre .shape .paged))
 
     wants : sh .batch ≡ 0 → ⊥
-    wants z = omega (arith, a .asks .shape .gives)
+    wants z = omega (arith, a .pre .shape .gives)
 
     pub linked-walks : walksFrom n (link (newRun b sh q) c q) c sh ≡ true
-    linked-walks = alone-walks n (newRun b sh q) long₁ c hc q (lt-ltb q n in-arena) alone sh (a .asks .shape .few) 0 (sh .batch) fair wants under₁ (sh .batch) (a .asks .shape .gives)
+    linked-walks = alone-walks n (newRun b sh q) long₁ c hc q (lt-ltb q n in-arena) alone sh (a .pre .shape .few) 0 (sh .batch) valid wants under₁ (sh .batch) (a .pre .shape .gives)
 
     linked-planned : foreseen (fills (link (newRun b sh q) c q) c sh) ≡ record { count = length (latest (newRun b sh q) sh q (sh .batch)); virgin = true }
     linked-planned =
-        let w = linked-asks in
-        fill-planned n c hc sh (a .asks .shape) (sh .batch) (sh .batch) (link (newRun b sh q) c q) (le-leb (words n) (length (link (newRun b sh q) c q)) (w .long)) (w .bound) linked-walks
-        ∙ alone-planned n (newRun b sh q) long₁ c hc q (lt-ltb q n in-arena) alone sh (a .asks .shape .few) 0 (sh .batch) fair wants under₁ (sh .batch) (a .asks .shape .gives)
-        ∙ rw (new-virgin n b hb c sh (a .asks .shape) q (a .ends) (a .under) (a .owners))
+        let w = linked-pre in
+        fill-planned n c hc sh (a .pre .shape) (sh .batch) (sh .batch) (link (newRun b sh q) c q) (le-leb (words n) (length (link (newRun b sh q) c q)) (w .long)) (w .bound) linked-walks
+        ∙ alone-planned n (newRun b sh q) long₁ c hc q (lt-ltb q n in-arena) alone sh (a .pre .shape .few) 0 (sh .batch) valid wants under₁ (sh .batch) (a .pre .shape .gives)
+        ∙ rw (new-virgin n b hb c sh (a .pre .shape) q (a .ends) (a .under) (a .owners))
 
-  pub run-links : (b₁ : List ℕ) → TakeRunAsks b c sh q → b₁ ≡ newRun b sh q → LinkAsks b₁ c q
+  pub run-links : (b₁ : List ℕ) → TakeRunPre b c sh q → b₁ ≡ newRun b sh q → LinkPre b₁ c q
   run-links b₁ a e =
       rw e (record {
-        known = a .asks .known;
-        below = omega (arith, in-arena a, a .asks .few);
-        there = rw (changes a .long) (omega (arith, in-arena a, a .asks .long));
-        head = rw (alone a, changes a .long) (omega (arith, in-arena a, a .asks .long));
+        known = a .pre .known;
+        below = omega (arith, in-arena a, a .pre .few);
+        there = rw (changes a .long) (omega (arith, in-arena a, a .pre .long));
+        head = rw (alone a, changes a .long) (omega (arith, in-arena a, a .pre .long));
       })
 
-  module _ (a : TakeRunAsks b c sh q) where
+  module _ (a : TakeRunPre b c sh q) where
     gives : (m k top : ℕ) → k ≤ top → min m k + min (m - k) (top - k) ≡ min m top
     gives m k top h = omega arith
 
     -- with no block out it gives what is wanted, up to its capacity
     run-gives : length (latest (newRun b sh q) sh q (sh .batch)) ≡ min (sh .batch) (sh .capacity)
     run-gives =
-        let fr = new-free (a .pages) b (hb a) c sh (a .asks .shape) q (a .ends) (a .under) (a .owners) in
-        let ca = new-carved (a .pages) b (hb a) c sh (a .asks .shape) q (a .ends) (a .under) (a .owners) in
+        let fr = new-free (a .pages) b (hb a) c sh (a .pre .shape) q (a .ends) (a .under) (a .owners) in
+        let ca = new-carved (a .pages) b (hb a) c sh (a .pre .shape) q (a .ends) (a .under) (a .owners) in
         latest-length (newRun b sh q) sh q (sh .batch) ∙ rw (fr, ca) (gives (sh .batch) (stocked sh) (sh .capacity) (stocked-le sh))
 
     run-serves : Serves (min (sh .batch) (sh .capacity)) true (link (newRun b sh q) c q) c sh (onRunAt b c sh q)
     unfolding onRun
     run-serves =
         let p = linked-planned a in
-        record { pages = a .pages; asks = linked-asks a; walks = linked-walks a; count = sym (ap (λ z. z .count) p ∙ run-gives); virgin = sym (ap (λ z. z .virgin) p); is = λ l. refl }
+        record { pages = a .pages; pre = linked-pre a; walks = linked-walks a; count = sym (ap (λ z. z .count) p ∙ run-gives); virgin = sym (ap (λ z. z .virgin) p); is = λ l. refl }
 
-  pub run-ready : (b₁ b₂ : List ℕ) (k : ℕ) → TakeRunAsks b c sh q → b₁ ≡ newRun b sh q → b₂ ≡ link b₁ c q → k ≡ min (sh .batch) (sh .capacity) → Readies (Fill k true) b₂ c sh (onRunAt b c sh q)
+  pub run-ready : (b₁ b₂ : List ℕ) (k : ℕ) → TakeRunPre b c sh q → b₁ ≡ newRun b sh q → b₂ ≡ link b₁ c q → k ≡ min (sh .batch) (sh .capacity) → Readies (Fill k true) b₂ c sh (onRunAt b c sh q)
   unfolding Readies
   run-ready b₁ b₂ k a e e₂ ek = rw (e₂, e, ek) (run-serves a)
 
@@ -159,7 +159,7 @@ module _ (n : ℕ) (b : List ℕ) (c : ℕ) (sh : Shape) (h : ℕ) where
 
   refused-keeps : (commits .code ≡ 0 → ⊥) → commits .book ≡ b
   unfolding commitFor
-  refused-keeps d = go (commitFair n b) _ refl d
+  refused-keeps d = go (commitValid n b) _ refl d
     where
       go : (t : Bool) (x : Committed) → x .code ≡ 0 → (cond t x (commitRefused b 13) .code ≡ 0 → ⊥) → cond t x (commitRefused b 13) .book ≡ b
       go true x e d = absurd (d e)
@@ -190,13 +190,13 @@ module _ (n : ℕ) (b : List ℕ) (c : ℕ) (sh : Shape) (h : ℕ) where
       granted : (commits .code ≡ 0) × (commits .run ≡ some q)
       granted = answer-run (commits .code) (commits .run) (commits .fresh) q f (sym (told .answer) ∙ e)
 
-      pub new-runs : TakeNewAsks n b c sh → TakeRunAsks b₁ c sh q
+      pub new-runs : TakeNewPre n b c sh → TakeRunPre b₁ c sh q
       new-runs t =
-          let g = commit-granted n b (le-leb (words n) (length b) (t .asks .long)) (sh .pages) (suc c) h q (granted .1) in
+          let g = commit-granted n b (le-leb (words n) (length b) (t .pre .long)) (sh .pages) (suc c) h q (granted .1) in
           rw (told .book) (record {
             pages = n;
-            asks = record { known = t .asks .known; shape = t .asks .shape; few = t .asks .few; long = rw (g .long) (t .asks .long); bound = g .bound };
-            alone = g .rows c (lt-ltb c 76 (t .asks .known)) ∙ t .alone;
+            pre = record { known = t .pre .known; shape = t .pre .shape; few = t .pre .few; long = rw (g .long) (t .pre .long); bound = g .bound };
+            alone = g .rows c (lt-ltb c 76 (t .pre .known)) ∙ t .alone;
             ends = g .ends;
             under = g .below;
             owners = g .owners;
@@ -208,32 +208,32 @@ module _ (n : ℕ) (b : List ℕ) (c : ℕ) (sh : Shape) (h : ℕ) where
 
 -- ---- a parked page heads the partial list
 module _ (b : List ℕ) (c x : ℕ) (ex : x ≡ get b (class partial c)) where
-  pub woken-first : (k : Park) (y : ℕ) (b₁ : List ℕ) → x ≡ 0 → k ≡ firstStore b c → y ≡ get b (class (top k) c) → b₁ ≡ wake b c k (y - 1) → b₁ ≡ readied b c
+  pub unparked-first : (k : Park) (y : ℕ) (b₁ : List ℕ) → x ≡ 0 → k ≡ firstStore b c → y ≡ get b (class (top k) c) → b₁ ≡ unparkRun b c k (y - 1) → b₁ ≡ readied b c
   unfolding readied
-  woken-first k y b₁ z ek ey e₁ = rw (← ex, z, ← ek, ← ey) e₁
+  unparked-first k y b₁ z ek ey e₁ = rw (← ex, z, ← ek, ← ey) e₁
 
   pub listed-first : (x ≡ 0 → ⊥) → b ≡ readied b c
   unfolding readied
   listed-first d = rw (← ex, ne-eqb x 0 d)
 
-  module _ (a : FirstAsks b c) (z : x ≡ 0) (k : Park) (ek : k ≡ firstStore b c) (y : ℕ) (ey : y ≡ get b (class (top k) c)) where
+  module _ (a : FirstPre b c) (z : x ≡ 0) (k : Park) (ek : k ≡ firstStore b c) (y : ℕ) (ey : y ≡ get b (class (top k) c)) where
     pub first-some : 1 ≤ y
     first-some = let o = a .some (sym ex ∙ z) in rw (ey, ek) o
 
-    pub first-wakes : WakeAsks b c k (y - 1)
-    first-wakes = let o = a .wakes (sym ex ∙ z) in rw (ey, ek) o
+    pub first-unparks : UnparkRunPre b c k (y - 1)
+    first-unparks = let o = a .unparks (sym ex ∙ z) in rw (ey, ek) o
 
 -- ---- the first source that has a page
 module _ (n : ℕ) (b : List ℕ) (c : ℕ) (sh : Shape) (f : ℕ) (e : f ≡ get b (arena frontier)) where
-  pub plan-unfair : n < f → Plans (Refused 13) n b c sh
+  pub plan-invalid : n < f → Plans (Refused 13) n b c sh
   unfolding Plans takeBlocks
-  plan-unfair u = (refl, λ h l. rw (← e, lt-ltb n f u))
+  plan-invalid u = (refl, λ h l. rw (← e, lt-ltb n f u))
 
-  module _ (a : SourceAsks n b c sh) (u : f ≤ n) where
-    source-asks : TakeAsks n b c sh
-    source-asks = record { known = a .known; shape = a .shape; few = a .few; long = a .long; bound = omega arith }
+  module _ (a : SourcePre n b c sh) (u : f ≤ n) where
+    source-pre : TakePre n b c sh
+    source-pre = record { known = a .known; shape = a .shape; few = a .few; long = a .long; bound = omega arith }
 
-    row : RowAsks b c
+    row : RowPre b c
     row = record { known = a .known; long = omega (arith, a .long) }
 
     module _ (x : ℕ) (ex : x ≡ get b (class partial c)) where
@@ -248,8 +248,8 @@ module _ (n : ℕ) (b : List ℕ) (c : ℕ) (sh : Shape) (f : ℕ) (e : f ≡ ge
             let never : get b (class partial c) ≡ 0 → ⊥ = λ o. d (ex ∙ o) in
             by-cases (walksFrom n b c sh)
             (λ w. rw (t, w) (
-              record { row = row; some = λ o. absurd (never o); wakes = λ o. absurd (never o) },
-              λ h. rw (← (listed-first b c x ex d)) (record { pages = n; asks = source-asks; walks = w; count = refl; virgin = refl; is = λ l. lists h l ∙ rw w }),
+              record { row = row; some = λ o. absurd (never o); unparks = λ o. absurd (never o) },
+              λ h. rw (← (listed-first b c x ex d)) (record { pages = n; pre = source-pre; walks = w; count = refl; virgin = refl; is = λ l. lists h l ∙ rw w }),
             ))
             (λ w. rw (t, w) (refl, λ h l. lists h l ∙ rw w))
 
@@ -263,7 +263,7 @@ module _ (n : ℕ) (b : List ℕ) (c : ℕ) (sh : Shape) (f : ℕ) (e : f ≡ ge
 
         pub plan-none : y ≡ 0 → Plans Nothing n b c sh
         unfolding Plans takeBlocks
-        plan-none o = (record { asks = source-asks; alone = sym ex ∙ z }, λ h l. rw (← e, le-ltb n f u, ← ex, z, no-empty o, no-cold o))
+        plan-none o = (record { pre = source-pre; alone = sym ex ∙ z }, λ h l. rw (← e, le-ltb n f u, ← ex, z, no-empty o, no-cold o))
 
         module _ (d : y ≡ 0 → ⊥) where
           parks : (h : ℕ) (l : List ℕ) → takeBlocks n b c sh h l ≡ fromPark n b c sh k l
@@ -276,18 +276,18 @@ module _ (n : ℕ) (b : List ℕ) (c : ℕ) (sh : Shape) (f : ℕ) (e : f ≡ ge
               rw (← e, le-ltb n f u, ← ex, z, w, ne-eqb (get b (class cold c)) 0 some-cold, k′))
               (λ w. let k′ : k ≡ Empty = ek ∙ rw w in rw (← e, le-ltb n f u, ← ex, z, w, k′))
 
-          parked-asks : ParkedAsks n b c sh k
-          parked-asks = record { asks = source-asks; alone = sym ex ∙ z; some = omega (arith, ey, d) }
+          parked-pre : ParkedPre n b c sh k
+          parked-pre = record { pre = source-pre; alone = sym ex ∙ z; some = omega (arith, ey, d) }
 
-          pub plan-stored : (p : Plan) → Foretold p (parkFair n b c sh k) (fills (woken b c k) c sh) → Plans p n b c sh
+          pub plan-stored : (p : Plan) → Foretold p (parkValid n b c sh k) (fills (unparked b c k) c sh) → Plans p n b c sh
           unfolding Plans fromPark
           plan-stored p t =
-              let g = parked-asks in
-              by-cases (parkFair n b c sh k)
+              let g = parked-pre in
+              by-cases (parkValid n b c sh k)
               (λ w. rw (t, w) (
-                record { row = row; some = λ _. rw (← ek) (g .some); wakes = λ _. rw (← ek) (parked-wakes n b c sh k g w) },
-                λ h. rw (← (woken-first b c x ex k y (woken b c k) z ek ey (ap (λ j. wake b c k (j - 1)) (sym ey))))
-                    (record { pages = n; asks = woken-asks n b c sh k g w; walks = woken-walks n b c sh k g w; count = refl; virgin = refl; is = λ l. parks h l ∙ rw w }),
+                record { row = row; some = λ _. rw (← ek) (g .some); unparks = λ _. rw (← ek) (parked-unparks n b c sh k g w) },
+                λ h. rw (← (unparked-first b c x ex k y (unparked b c k) z ek ey (ap (λ j. unparkRun b c k (j - 1)) (sym ey))))
+                    (record { pages = n; pre = unparked-pre n b c sh k g w; walks = unparked-walks n b c sh k g w; count = refl; virgin = refl; is = λ l. parks h l ∙ rw w }),
               ))
               (λ w. rw (t, w) (refl, λ h l. parks h l ∙ rw w))
 
@@ -303,16 +303,16 @@ module _ (n : ℕ) (b : List ℕ) (c : ℕ) (sh : Shape) (p : Plan) (a : Plans p
   unfolding Plans Readies
   made-refused h k e l = let q = rw e at a in rw (q .1 h l, q .0) (record { answer = refl; book = refl; list = refl })
 
-  pub made-asks : p ≡ Nothing → TakeNewAsks n b c sh
+  pub made-pre : p ≡ Nothing → TakeNewPre n b c sh
   unfolding Plans
-  made-asks e = let q = rw e at a in q .0
+  made-pre e = let q = rw e at a in q .0
 
   pub made-new : (h : ℕ) (s : Plan) (b₁ : List ℕ) → p ≡ Nothing → Readies s b₁ c sh (takeNew n b c sh h) → Readies s b₁ c sh (takeBlocks n b c sh h)
   unfolding Plans
   made-new h s b₁ e t = let q = rw e at a in let z : takeBlocks n b c sh h ≡ takeNew n b c sh h = said (q .1 h) in rw z t
 
   module _ (m : ℕ) (v : Bool) (e : p ≡ Fill m v) where
-    pub made-first : FirstAsks b c
+    pub made-first : FirstPre b c
     unfolding Plans
     made-first = let q = rw e at a in q .0
 
@@ -321,8 +321,8 @@ module _ (n : ℕ) (b : List ℕ) (c : ℕ) (sh : Shape) (p : Plan) (a : Plans p
     made-ready h b₁ e₁ = let q = rw e at a in rw e₁ (q .1 h)
 
 -- ---- the class's shape
-pub shape-asks : (n : ℕ) (b : List ℕ) (c : ℕ) (sh : Shape) → sh ≡ shapeOf c → CallAsks n b c → SourceAsks n b c sh
-shape-asks n b c sh e a = record { known = a .known; shape = rw e (shape-sound c); few = a .few; long = a .long }
+pub shape-pre : (n : ℕ) (b : List ℕ) (c : ℕ) (sh : Shape) → sh ≡ shapeOf c → CallPre n b c → SourcePre n b c sh
+shape-pre n b c sh e a = record { known = a .known; shape = rw e (shape-sound c); few = a .few; long = a .long }
 
 pub shape-pages : (c : ℕ) (sh : Shape) → sh ≡ shapeOf c → sh .pages ≤ maxPages + 1
 shape-pages c sh e = omega (arith, shape-sound c .short, ap (λ z. z .pages) e)
@@ -344,7 +344,7 @@ module _ (n : ℕ) (b : List ℕ) (c : ℕ) (sh : Shape) (i : sh ≡ shapeOf c) 
     abbrev commits′ : Committed
     commits′ = commitFor n b 15 (sh .pages) (suc c)
 
-    no-page : TakeNewAsks n b c sh
+    no-page : TakeNewPre n b c sh
     unfolding Plans
     no-page = plan .0
 
@@ -385,8 +385,8 @@ module _ (n : ℕ) (b : List ℕ) (c : ℕ) (sh : Shape) (h : ℕ) (l : List ℕ
     unfolding Readies
     serves = rw e at a
 
-    pub take-fills : BlocksAsks n b c sh l → FillAsks b₁ c sh l m
-    take-fills k = let s = serves in record { pages = s .pages; asks = s .asks; walks = s .walks; count = s .count; places = omega (arith, fill-most c sh (sh .batch) (sh .batch) b₁, s .count, k .places) }
+    pub take-fills : BlocksPre n b c sh l → FillPre b₁ c sh l m
+    take-fills k = let s = serves in record { pages = s .pages; pre = s .pre; walks = s .walks; count = s .count; places = omega (arith, fill-most c sh (sh .batch) (sh .batch) b₁, s .count, k .places) }
 
     pub take-took : (b′ l′ : List ℕ) → Filling b′ l′ (fills b₁ c sh) l → Takes (Answer.Took m v) b′ l′ (takeBlocks n b c sh h l)
     take-took b′ l′ g = let s = serves in rw (s .is l, s .count, s .virgin) (record { answer = refl; book = g .book; list = g .list })
@@ -397,8 +397,8 @@ module _ (n : ℕ) (b : List ℕ) (c h : ℕ) (l : List ℕ) where
   unfolding takeCall
   call-short sh e s = rw (← e, lt-ltb (length l) (sh .batch) s) (record { answer = refl; book = refl; list = refl })
 
-  pub call-asks : (sh : Shape) → CallAsks n b c → sh ≡ shapeOf c → sh .batch ≤ length l → BlocksAsks n b c sh l
-  call-asks sh a e s = record { source = shape-asks n b c sh e a; places = s }
+  pub call-pre : (sh : Shape) → CallPre n b c → sh ≡ shapeOf c → sh .batch ≤ length l → BlocksPre n b c sh l
+  call-pre sh a e s = record { source = shape-pre n b c sh e a; places = s }
 
   pub call-done : (sh : Shape) (r : Taken.Take) (b′ l′ : List ℕ) → sh ≡ shapeOf c → sh .batch ≤ length l → Takes r b′ l′ (takeBlocks n b c sh h l) → Takes r b′ l′ (takeCall n b c (shapeOf c) h l)
   unfolding takeCall

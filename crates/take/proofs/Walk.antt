@@ -19,7 +19,7 @@ use Rattle.fields.specs.Field.{Field, arena, mark, class, hole, page, out, slot
 use Rattle.fields.proofs.Changes.{Changes}
 use Rattle.pages.specs.Stack.{latest}
 use Rattle.calls.specs.Take.{sound, walk}
-use Rattle.take.proofs.TakePages.{Fair, sound-fair, fair-sound, Alike, fair-alike, latest-alike}
+use Rattle.take.proofs.TakePages.{Valid, sound-valid, valid-sound, Alike, valid-alike, latest-alike}
 
 -- ---- what a walk finds
 pub record Planned : Type 0 where
@@ -71,7 +71,7 @@ module _ (n : ℕ) (b : List ℕ) (c : ℕ) (sh : Shape) where
   pub record Step (k m code y : ℕ) : Type 0 where
     pub below : leb code (get b (arena frontier)) ≡ true
     pub before : get b (page prev (code - 1)) ≡ y
-    pub fair : Fair n b c sh 1 m (code - 1)
+    pub valid : Valid n b c sh 1 m (code - 1)
     pub rest : walk n b c sh k (m - length (latest b sh (code - 1) m)) (get b (page next (code - 1))) code ≡ true
 
   pub walk-below : (k m code y : ℕ) → walk n b c sh k m code y ≡ true → leb code (get b (arena frontier)) ≡ true
@@ -92,13 +92,13 @@ module _ (n : ℕ) (b : List ℕ) (c : ℕ) (sh : Shape) where
       record {
         below = and-left _ _ w;
         before = eqb-true _ _ (and-left (eqb (get b (page prev (code - 1))) y) _ w₁);
-        fair = sound-fair n b c sh 1 m (code - 1) (and-left _ _ w₂);
+        valid = sound-valid n b c sh 1 m (code - 1) (and-left _ _ w₂);
         rest = and-right (sound n b c sh 1 m (code - 1)) _ w₂;
       }
 
   pub step-walk : (k m code y : ℕ) → stops m code ≡ false → Step k m code y → walk n b c sh (suc k) m code y ≡ true
   unfolding walk
-  step-walk k m code y e s = rw (e, s .below, s .before, eq-eqb y y refl, fair-sound n b c sh 1 m (code - 1) (s .fair)) (s .rest)
+  step-walk k m code y e s = rw (e, s .below, s .before, eq-eqb y y refl, valid-sound n b c sh 1 m (code - 1) (s .valid)) (s .rest)
 
 -- ---- what a turn of the fill writes: the page's counts, out bits, links and LISTED, PREV of the page with code x, and the head
 abbrev pub isTurned : ℕ → ℕ → ℕ → Field → Bool
@@ -148,12 +148,12 @@ module _ (n : ℕ) (b b′ : List ℕ) (c : ℕ) (sh : Shape) (few : sh .capacit
   go-kept k m code y y′ e d s py r =
       let q = code - 1 in
       let a = other-alike (code - 1) d in
-      let la : latest b′ sh (code - 1) m ≡ latest b sh (code - 1) m = latest-alike b b′ (code - 1) a sh m (omega (arith, leb-true, s .fair .stack, s .fair .within)) in
+      let la : latest b′ sh (code - 1) m ≡ latest b sh (code - 1) m = latest-alike b b′ (code - 1) a sh m (omega (arith, leb-true, s .valid .stack, s .valid .within)) in
       let nx = other-next (code - 1) d in (
         step-walk n b′ c sh k m code y′ e (record {
           below = rw (a .frontier) (s .below);
           before = py;
-          fair = fair-alike b b′ (code - 1) a n c sh 1 1 m few (other-listed (code - 1) d ∙ eqb-true _ _ (s .fair .listing)) (s .fair);
+          valid = valid-alike b b′ (code - 1) a n c sh 1 1 m few (other-listed (code - 1) d ∙ eqb-true _ _ (s .valid .listing)) (s .valid);
           rest = rw (la, nx) (r .0);
         }),
         planned-goes b′ sh k m code e ∙ rw (la, nx, a .virgin, r .1) (sym (planned-goes b sh k m code e)),

@@ -2,9 +2,9 @@
 ghost use mathlib.Core.Path.{_≡_};
 ghost use Rattle.classes.specs.Shape.{shapeOf};
 ghost use Rattle.calls.specs.Take.{takeNew, takeBlocks, takeCall};
-ghost use Rattle.take.specs.way.TakePlan.{readied, FirstAsks, TakeRunAsks, TakeNewAsks, SourceAsks, BlocksAsks, CallAsks};
+ghost use Rattle.take.specs.way.TakePlan.{readied, FirstPre, TakeRunPre, TakeNewPre, SourcePre, BlocksPre, CallPre};
 ghost use Rattle.take.specs.way.TakeAnswer.{Takes, TakesInto, Readies, Counts, onRunAt};
-use crate::take_fill::fill;
+use crate::take_fill::fill_from_list;
 use crate::take_plan::Plan;
 use crate::take_plan::first_store;
 use crate::take_plan::plan_take;
@@ -19,7 +19,7 @@ pub enum Take {
 
 // A run that the arena gave, as the class's only page.
 fn ready_run(meta: &mut [u32], c: u32, shape: Shape, q: u32) -> Plan
-    requires { ⌜ TakeRunAsks (now meta) c shape q ⌝ }
+    requires { ⌜ TakeRunPre (now meta) c shape q ⌝ }
     ensures { λ r. ⌜ Readies r (now (meta .exit)) c shape (onRunAt (now (meta .entry)) c shape q) ⌝ }
 {
     lists::new_run(meta, shape, q);
@@ -29,7 +29,7 @@ fn ready_run(meta: &mut [u32], c: u32, shape: Shape, q: u32) -> Plan
 
 // A new run from the arena; none is a take of no block.
 fn ready_new(meta: &mut [u32], n: u32, c: u32, shape: Shape, host: u32) -> Plan
-    requires { ⌜ TakeNewAsks n (now meta) c shape ⌝ }
+    requires { ⌜ TakeNewPre n (now meta) c shape ⌝ }
     ensures { λ r. ⌜ Readies r (now (meta .exit)) c shape (takeNew n (now (meta .entry)) c shape host) ⌝ }
 {
     let commit = runs::commit_for(meta, n, host, shape.pages, c + 1);
@@ -41,27 +41,27 @@ fn ready_new(meta: &mut [u32], n: u32, c: u32, shape: Shape, host: u32) -> Plan
 }
 
 // A parked page heads the partial list, where there is no partial page.
-fn wake_first(meta: &mut [u32], c: u32)
-    requires { ⌜ FirstAsks (now meta) c ⌝ }
+fn unpark_first(meta: &mut [u32], c: u32)
+    requires { ⌜ FirstPre (now meta) c ⌝ }
     ensures { λ _. ⌜ now (meta .exit) ≡ readied (now (meta .entry)) c ⌝ }
 {
     if fields::class::partial(meta, c) == 0 {
         let park = first_store(meta, c);
         let q = lists::store_top(meta, c, park) - 1;
-        lists::wake(meta, c, park, q);
+        lists::unpark_run(meta, c, park, q);
     }
 }
 
 // The page of the source that the plan chose heads the partial list.
 fn make_ready(meta: &mut [u32], n: u32, c: u32, shape: Shape, host: u32) -> Plan
-    requires { ⌜ SourceAsks n (now meta) c shape ⌝ }
+    requires { ⌜ SourcePre n (now meta) c shape ⌝ }
     ensures { λ r. ⌜ Readies r (now (meta .exit)) c shape (takeBlocks n (now (meta .entry)) c shape host) ⌝ }
 {
     match plan_take(meta, n, c, shape) {
         Plan::Refused(k) => Plan::Refused(k),
         Plan::Nothing => ready_new(meta, n, c, shape, host),
         Plan::Fill(m, v) => {
-            wake_first(meta, c);
+            unpark_first(meta, c);
             Plan::Fill(m, v)
         }
     }
@@ -69,7 +69,7 @@ fn make_ready(meta: &mut [u32], n: u32, c: u32, shape: Shape, host: u32) -> Plan
 
 // From the first source that has a page.
 fn take_blocks(meta: &mut [u32], n: u32, c: u32, shape: Shape, host: u32, list: &mut [u64]) -> Take
-    requires { ⌜ BlocksAsks n (now meta) c shape (now list) ⌝ }
+    requires { ⌜ BlocksPre n (now meta) c shape (now list) ⌝ }
     ensures { λ r. ⌜ Takes r (now (meta .exit)) (now (list .exit)) (takeBlocks n (now (meta .entry)) c shape host (now (list .entry))) ⌝ }
 {
     let found = make_ready(meta, n, c, shape, host);
@@ -77,7 +77,7 @@ fn take_blocks(meta: &mut [u32], n: u32, c: u32, shape: Shape, host: u32, list: 
         Plan::Refused(k) => Take::Refused(k),
         Plan::Nothing => Take::Took(0, false),
         Plan::Fill(m, v) => {
-            fill(meta, c, shape, list, m);
+            fill_from_list(meta, c, shape, list, m);
             Take::Took(m, v)
         }
     }
@@ -85,7 +85,7 @@ fn take_blocks(meta: &mut [u32], n: u32, c: u32, shape: Shape, host: u32, list: 
 
 // A class's take from number 5 on, on the book of an arena of n pages.
 fn take_sized(meta: &mut [u32], n: u32, c: u32, host: u32, list: &mut [u64]) -> Take
-    requires { ⌜ CallAsks n (now meta) c ⌝ }
+    requires { ⌜ CallPre n (now meta) c ⌝ }
     ensures { λ r. ⌜ Takes r (now (meta .exit)) (now (list .exit)) (takeCall n (now (meta .entry)) c (shapeOf c) host (now (list .entry))) ⌝ }
 {
     let shape = classes::shape_of(c);
@@ -105,7 +105,7 @@ pub fn take_into(
     count: &mut u32,
     virgin: &mut u32,
 ) -> u32
-    requires { ⌜ CallAsks n (now meta) c ⌝ }
+    requires { ⌜ CallPre n (now meta) c ⌝ }
     ensures { λ r. ⌜ TakesInto r (now (meta .exit)) (now (list .exit)) (now (count .entry)) (now (count .exit)) (now (virgin .entry)) (now (virgin .exit)) (takeCall n (now (meta .entry)) c (shapeOf c) host (now (list .entry))) ⌝ }
 {
     match take_sized(meta, n, c, host, list) {
@@ -120,7 +120,7 @@ pub fn take_into(
 
 // And as one value.
 pub fn take_call(meta: &mut [u32], n: u32, c: u32, host: u32, list: &mut [u64]) -> Take
-    requires { ⌜ CallAsks n (now meta) c ⌝ }
+    requires { ⌜ CallPre n (now meta) c ⌝ }
     ensures { λ r. ⌜ Takes r (now (meta .exit)) (now (list .exit)) (takeCall n (now (meta .entry)) c (shapeOf c) host (now (list .entry))) ⌝ }
 {
     let mut count = 0;
@@ -134,7 +134,7 @@ pub fn take_call(meta: &mut [u32], n: u32, c: u32, host: u32, list: &mut [u64]) 
 
 // How many blocks a take would answer, all being granted: the plan's. Nothing is written.
 pub fn take_count(meta: &[u32], n: u32, c: u32) -> u32
-    requires { ⌜ CallAsks n (now meta) c ⌝ }
+    requires { ⌜ CallPre n (now meta) c ⌝ }
     ensures { λ r. ⌜ Counts r n (now (meta .entry)) c (shapeOf c) ⌝ }
 {
     let shape = classes::shape_of(c);

@@ -2,4 +2,4 @@
 pub mod call;
 mod take_fill;
 mod take_plan;
-mod tops;
+mod top_entries;

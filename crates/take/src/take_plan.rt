@@ -6,11 +6,11 @@ ghost use lib.Dec.{eqb};
 ghost use lib.ListN.{length};
 ghost use Rattle.fields.specs.Field.{page, virgin, words, get};
 ghost use Rattle.pages.specs.Stack.{latest};
-ghost use Rattle.pages.specs.way.Asks.{RowAsks, PageAsks};
-ghost use Rattle.calls.specs.Take.{pageReady, sound, parkFair};
-ghost use Rattle.take.specs.way.TakePlan.{TakeAsks, SupplyAsks, share, walksFrom, fills, Foretold, ParkedAsks, firstStore, woken, SourceAsks};
+ghost use Rattle.pages.specs.way.Pre.{RowPre, PagePre};
+ghost use Rattle.calls.specs.Take.{pageReady, sound, parkValid};
+ghost use Rattle.take.specs.way.TakePlan.{TakePre, SupplyPre, share, walksFrom, fills, Foretold, ParkedPre, firstStore, unparked, SourcePre};
 ghost use Rattle.take.specs.way.TakeAnswer.{Plans};
-use crate::tops::tops_below;
+use crate::top_entries::top_entries_below;
 use classes::Shape;
 use pages::Park;
 
@@ -23,7 +23,7 @@ pub enum Plan {
 
 // How many blocks a page gives when m are wanted.
 pub fn supply(meta: &[u32], shape: Shape, q: u32, m: u32) -> u32
-    requires { ⌜ SupplyAsks (now meta) shape q ⌝ }
+    requires { ⌜ SupplyPre (now meta) shape q ⌝ }
     ensures { λ r. ⌜ r ≡ length (latest (now (meta .entry)) shape q m) ⌝ }
 {
     let most = fields::page::free(meta, q) + (shape.capacity - fields::page::carved(meta, q));
@@ -32,10 +32,10 @@ pub fn supply(meta: &[u32], shape: Shape, q: u32, m: u32) -> u32
 
 // A page's own words are in their ranges, LISTED is l, and the page gives a block.
 fn page_ready(meta: &[u32], shape: Shape, l: u32, q: u32) -> bool
-    requires { ⌜ PageAsks (now meta) q ⌝ }
+    requires { ⌜ PagePre (now meta) q ⌝ }
     ensures { λ r. ⌜ r ≡ pageReady (now (meta .entry)) shape l q ⌝ }
 {
-    if !lists::header_fair(meta, shape, 0, q) {
+    if !lists::header_valid(meta, shape, 0, q) {
         return false;
     }
     if fields::page::listed(meta, q) != l {
@@ -46,7 +46,7 @@ fn page_ready(meta: &[u32], shape: Shape, l: u32, q: u32) -> bool
 
 // The run at q is the class's, in its ranges, and the m blocks wanted are on its stack or new.
 fn page_sound(meta: &[u32], n: u32, c: u32, shape: Shape, l: u32, m: u32, q: u32) -> bool
-    requires { ⌜ TakeAsks n (now meta) c shape ⌝ }
+    requires { ⌜ TakePre n (now meta) c shape ⌝ }
     ensures { λ r. ⌜ r ≡ sound n (now (meta .entry)) c shape l m q ⌝ }
 {
     if !lists::whole(meta, n, c, shape, q) {
@@ -56,12 +56,12 @@ fn page_sound(meta: &[u32], n: u32, c: u32, shape: Shape, l: u32, m: u32, q: u32
         return false;
     }
     let free = fields::page::free(meta, q);
-    tops_below(meta, q, m, free, fields::page::carved(meta, q))
+    top_entries_below(meta, q, m, free, fields::page::carved(meta, q))
 }
 
 // The blocks that the walk finds on the page with a code, after the one with code `prev`; 0 where a test fails.
 fn share(meta: &[u32], n: u32, c: u32, shape: Shape, m: u32, code: u32, prev: u32) -> u32
-    requires { ⌜ TakeAsks n (now meta) c shape ⌝ }
+    requires { ⌜ TakePre n (now meta) c shape ⌝ }
     requires { ⌜ 0 < code ⌝ }
     ensures { λ r. ⌜ r ≡ share n (now (meta .entry)) c shape m code prev ⌝ }
 {
@@ -86,7 +86,7 @@ fn still_virgin(meta: &[u32], q: u32, v: bool) -> bool
 
 // The partial list from its head on, as far as the take goes.
 pub fn plan_partial(meta: &[u32], n: u32, c: u32, shape: Shape) -> Plan
-    requires { ⌜ TakeAsks n (now meta) c shape ⌝ }
+    requires { ⌜ TakePre n (now meta) c shape ⌝ }
     ensures { λ r. ⌜ Foretold r (walksFrom n (now (meta .entry)) c shape) (fills (now (meta .entry)) c shape) ⌝ }
 {
     let mut code = fields::class::partial(meta, c);
@@ -113,11 +113,11 @@ pub fn plan_partial(meta: &[u32], n: u32, c: u32, shape: Shape) -> Plan
 }
 
 // The newest page of a store is one that a take can use.
-fn park_fair(meta: &[u32], n: u32, c: u32, shape: Shape, park: Park) -> bool
-    requires { ⌜ ParkedAsks n (now meta) c shape park ⌝ }
-    ensures { λ r. ⌜ r ≡ parkFair n (now (meta .entry)) c shape park ⌝ }
+fn park_valid(meta: &[u32], n: u32, c: u32, shape: Shape, park: Park) -> bool
+    requires { ⌜ ParkedPre n (now meta) c shape park ⌝ }
+    ensures { λ r. ⌜ r ≡ parkValid n (now (meta .entry)) c shape park ⌝ }
 {
-    if !lists::store_fair(meta, c, park) {
+    if !lists::store_valid(meta, c, park) {
         return false;
     }
     if lists::store_count(meta, c, park) == 0 {
@@ -132,10 +132,10 @@ fn park_fair(meta: &[u32], n: u32, c: u32, shape: Shape, park: Park) -> bool
 
 // The newest page of a store, as the partial list's only one.
 pub fn plan_parked(meta: &[u32], n: u32, c: u32, shape: Shape, park: Park) -> Plan
-    requires { ⌜ ParkedAsks n (now meta) c shape park ⌝ }
-    ensures { λ r. ⌜ Foretold r (parkFair n (now (meta .entry)) c shape park) (fills (woken (now (meta .entry)) c park) c shape) ⌝ }
+    requires { ⌜ ParkedPre n (now meta) c shape park ⌝ }
+    ensures { λ r. ⌜ Foretold r (parkValid n (now (meta .entry)) c shape park) (fills (unparked (now (meta .entry)) c park) c shape) ⌝ }
 {
-    if !park_fair(meta, n, c, shape, park) {
+    if !park_valid(meta, n, c, shape, park) {
         return Plan::Refused(13);
     }
     let q = lists::store_top(meta, c, park) - 1;
@@ -145,7 +145,7 @@ pub fn plan_parked(meta: &[u32], n: u32, c: u32, shape: Shape, park: Park) -> Pl
 
 // The store that a take turns to first.
 pub fn first_store(meta: &[u32], c: u32) -> Park
-    requires { ⌜ RowAsks (now meta) c ⌝ }
+    requires { ⌜ RowPre (now meta) c ⌝ }
     ensures { λ r. ⌜ r ≡ firstStore (now (meta .entry)) c ⌝ }
 {
     if fields::class::empty(meta, c) != 0 {
@@ -156,7 +156,7 @@ pub fn first_store(meta: &[u32], c: u32) -> Park
 
 // The first source that has a page; with none the arena is to be asked.
 pub fn plan_take(meta: &[u32], n: u32, c: u32, shape: Shape) -> Plan
-    requires { ⌜ SourceAsks n (now meta) c shape ⌝ }
+    requires { ⌜ SourcePre n (now meta) c shape ⌝ }
     ensures { λ r. ⌜ Plans r n (now (meta .entry)) c shape ⌝ }
 {
     if n < fields::arena::frontier(meta) {

@@ -13,9 +13,9 @@ use Rattle.trace.specs.declared.steps.Tally.{Tally}
 use Rattle.trace.specs.declared.steps.Step.{Step}
 use Rattle.trace.specs.declared.steps.Step.the-variants.{Stops, Goes}
 use Rattle.trace.specs.Trace.{Room, sayOf}
-use Rattle.trace.specs.Words.{Going, straight, begins, goes, after, stops, carried, roomOf}
-use Rattle.trace.specs.way.Asks.{BookAsks, straightened}
-use Rattle.trace.specs.way.Steps.{Lent, lent, goingOf, TallyAsks, Stopped, Went, Carried}
+use Rattle.trace.specs.Words.{Going, restoreKind, begins, goes, after, stops, carried, roomOf}
+use Rattle.trace.specs.way.Pre.{BookPre, restoreKinds}
+use Rattle.trace.specs.way.Steps.{Lent, lent, goingOf, TallyPre, Stopped, Went, Carried}
 use Rattle.rules.specs.Rules.{rulesOf}
 use Rattle.arena.specs.Open.{opened}
 use Rattle.trace.specs.way.Course.{Coursed, Ran}
@@ -40,19 +40,19 @@ drop-later a b h u v e =
 -- how far the loop is: from x, at y with the tally t, after i words
 pub record Onward (n : ℕ) (x : Lent) (ws : List ℕ) (y : Lent) (t : Tally) (i : ℕ) : Type 0 where
   pub within : i ≤ length ws
-  pub asks : TallyAsks n y t
+  pub pre : TallyPre n y t
   pub long : length (y .book) ≡ length (x .book)
   pub places : length (y .blocks) ≡ length (x .blocks)
   pub rows : length (y .figures) ≡ length (x .figures)
   pub goes : goingOf y t ≡ goes n (begins (x .book)) (ListN.take i ws)
   pub carried : carried n (roomOf (x .blocks) (x .figures)) (begins (x .book)) ws ≡ i + carried n (roomOf (x .blocks) (x .figures)) (goingOf y t) (drop i ws)
   pub blocks : drop (t .at) (y .blocks) ≡ drop (t .at) (x .blocks)
-  pub figures : drop (t .told) (y .figures) ≡ drop (t .told) (x .figures)
+  pub figures : drop (t .written) (y .figures) ≡ drop (t .written) (x .figures)
 
-pub onward-start : (n : ℕ) (b bl fl ws : List ℕ) → BookAsks n b → Onward n (lent b bl fl) ws (lent b bl fl) (record { at = 0; told = 0; out = 0; bytes = 0; highest = 0 }) 0
+pub onward-start : (n : ℕ) (b bl fl ws : List ℕ) → BookPre n b → Onward n (lent b bl fl) ws (lent b bl fl) (record { at = 0; written = 0; out = 0; bytes = 0; highest = 0 }) 0
 onward-start n b bl fl ws a = record {
   within = omega arith;
-  asks = record { there = record { book = a; blocks = omega arith; out = omega arith }; figures = omega arith };
+  pre = record { there = record { book = a; blocks = omega arith; out = omega arith }; figures = omega arith };
   long = refl;
   places = refl;
   rows = refl;
@@ -66,8 +66,8 @@ module _ (n : ℕ) (x : Lent) (ws : List ℕ) (y : Lent) (t : Tally) (i : ℕ) (
   abbrev m : Room
   m = roomOf (x .blocks) (x .figures)
 
-  pub asks-now : TallyAsks n y t
-  asks-now = o .asks
+  pub pre-now : TallyPre n y t
+  pre-now = o .pre
 
   pub onward-ends : length ws ≤ i → Coursed (record { carried = i; tally = t }) n x y ws
   onward-ends h =
@@ -78,8 +78,8 @@ module _ (n : ℕ) (x : Lent) (ws : List ℕ) (y : Lent) (t : Tally) (i : ℕ) (
         goes = o .goes;
         blocks = o .blocks;
         figures = o .figures;
-        handed = o .asks .there .blocks;
-        written = o .asks .figures;
+        handed = o .pre .there .blocks;
+        written = o .pre .figures;
       }
 
   module _ (h : i < length ws) where
@@ -92,8 +92,8 @@ module _ (n : ℕ) (x : Lent) (ws : List ℕ) (y : Lent) (t : Tally) (i : ℕ) (
           goes = o .goes;
           blocks = o .blocks;
           figures = o .figures;
-          handed = o .asks .there .blocks;
-          written = o .asks .figures;
+          handed = o .pre .there .blocks;
+          written = o .pre .figures;
         })
 
     pub onward-more : (r : Step) (y′ : Lent) (t′ : Tally) → Carried r n (sayOf (getD ws i 0)) y t y′ → r ≡ Goes t′ → length (y′ .book) ≡ length (y .book) → length (y′ .blocks) ≡ length (y .blocks) → length (y′ .figures) ≡ length (y .figures)
@@ -107,13 +107,13 @@ module _ (n : ℕ) (x : Lent) (ws : List ℕ) (y : Lent) (t : Tally) (i : ℕ) (
         let next : carried n m (goingOf y t) (drop i ws) ≡ suc left = carried-more n m (goingOf y t) ws i h e ∙ rw (s .goes) in
         record {
           within = omega arith;
-          asks = record {
+          pre = record {
             there = record {
-              book = record { few = o .asks .there .book .few; long = omega (arith, o .asks .there .book .long) };
-              blocks = s .handed (o .asks .there .blocks);
-              out = s .fewer (o .asks .there .out);
+              book = record { few = o .pre .there .book .few; long = omega (arith, o .pre .there .book .long) };
+              blocks = s .handed (o .pre .there .blocks);
+              out = s .fewer (o .pre .there .out);
             };
-            figures = s .written (o .asks .figures);
+            figures = s .written (o .pre .figures);
           };
           long = long ∙ o .long;
           places = places ∙ o .places;
@@ -121,23 +121,23 @@ module _ (n : ℕ) (x : Lent) (ws : List ℕ) (y : Lent) (t : Tally) (i : ℕ) (
           goes = rw one (s .goes ∙ (rw (o .goes) (sym (goes-more n (begins (x .book)) ws i h))));
           carried = rw one (omega (arith, o .carried, next));
           blocks = s .blocks ∙ drop-later (t .at) (t′ .at) (s .further .0) (y .blocks) (x .blocks) (o .blocks);
-          figures = s .figures ∙ drop-later (t .told) (t′ .told) (s .further .1) (y .figures) (x .figures) (o .figures);
+          figures = s .figures ∙ drop-later (t .written) (t′ .written) (s .further .1) (y .figures) (x .figures) (o .figures);
         }
 
 -- ---- the whole trace, from the book as it was lent
-pub ran : (n : ℕ) (b b₁ bl fl ws : List ℕ) (r : Course) (b′ bl′ fl′ bl″ : List ℕ) → b₁ ≡ opened n (rulesOf []) b → Coursed r n (lent b₁ bl fl) (lent b′ bl′ fl′) ws → bl″ ≡ straightened bl′ (r .tally .at)
+pub ran : (n : ℕ) (b b₁ bl fl ws : List ℕ) (r : Course) (b′ bl′ fl′ bl″ : List ℕ) → b₁ ≡ opened n (rulesOf []) b → Coursed r n (lent b₁ bl fl) (lent b′ bl′ fl′) ws → bl″ ≡ restoreKinds bl′ (r .tally .at)
     → Ran r n (lent b bl fl) (lent b′ bl″ fl′) ws
-unfolding straightened
+unfolding restoreKinds
 ran n b b₁ bl fl ws r b′ bl′ fl′ bl″ e c s =
     let k : r .carried ≡ carried n (roomOf bl fl) (begins (opened n (rulesOf []) b)) ws = rw (← e) (c .carried) in
     let g : goingOf (lent b′ bl′ fl′) (r .tally) ≡ goes n (begins (opened n (rulesOf []) b)) (ListN.take (carried n (roomOf bl fl) (begins (opened n (rulesOf []) b)) ws) ws) = rw (← k, ← e) (c .goes) in
     let at : length (ListN.take (r .tally .at) bl′) ≡ r .tally .at = length-take-le (r .tally .at) bl′ (c .handed) in
-    let told : length (ListN.take (r .tally .told) fl′) ≡ r .tally .told = length-take-le (r .tally .told) fl′ (c .written) in
-    let blocks : straightened bl′ (r .tally .at) ≡ map straight (ListN.take (r .tally .at) bl′) ++ drop (length (ListN.take (r .tally .at) bl′)) bl = rw (at, c .blocks) in
-    let figures : fl′ ≡ ListN.take (r .tally .told) fl′ ++ drop (length (ListN.take (r .tally .told) fl′)) fl = rw (told, ← (c .figures)) (sym (take-append-drop (r .tally .told) fl′)) in
+    let written : length (ListN.take (r .tally .written) fl′) ≡ r .tally .written = length-take-le (r .tally .written) fl′ (c .written) in
+    let blocks : restoreKinds bl′ (r .tally .at) ≡ map restoreKind (ListN.take (r .tally .at) bl′) ++ drop (length (ListN.take (r .tally .at) bl′)) bl = rw (at, c .blocks) in
+    let figures : fl′ ≡ ListN.take (r .tally .written) fl′ ++ drop (length (ListN.take (r .tally .written) fl′)) fl = rw (written, ← (c .figures)) (sym (take-append-drop (r .tally .written) fl′)) in
     record {
       book = ap (λ (x : Going). x .book) g;
-      blocks = s ∙ blocks ∙ ap (λ (x : Going). map straight (x .marks) ++ drop (length (x .marks)) bl) g;
+      blocks = s ∙ blocks ∙ ap (λ (x : Going). map restoreKind (x .listed) ++ drop (length (x .listed)) bl) g;
       figures = figures ∙ ap (λ (x : Going). x .figures ++ drop (length (x .figures)) fl) g;
-      done = rw (k, ← at, ← told) (ap (λ (x : Going). carried n (roomOf bl fl) (begins (opened n (rulesOf []) b)) ws ∷ length (x .marks) ∷ length (x .figures) ∷ []) g);
+      done = rw (k, ← at, ← written) (ap (λ (x : Going). carried n (roomOf bl fl) (begins (opened n (rulesOf []) b)) ws ∷ length (x .listed) ∷ length (x .figures) ∷ []) g);
     }

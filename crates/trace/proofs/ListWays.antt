@@ -5,8 +5,8 @@ use mathlib.Core.List.{List, [], _∷_, _++_, map}
 use mathlib.Core.Path.{_≡_, refl, ap}
 use lib.ListN.{length, getD, set, take, drop}
 use lib.Seq.{paste, paste-suc}
-use Rattle.trace.specs.Words.{straight}
-use Rattle.trace.specs.way.Asks.{straightened}
+use Rattle.trace.specs.Words.{restoreKind}
+use Rattle.trace.specs.way.Pre.{restoreKinds}
 
 -- one more is copied
 pub pasted-more : (d s to : List ℕ) (at i : ℕ) → at + i < length d → i < length s → to ≡ paste d at s i → set to (at + i) (getD s i 0) ≡ paste d at s (i + 1)
@@ -20,12 +20,12 @@ front-more f [] i h = absurd (omega arith)
 front-more f (x ∷ l) zero h = refl
 front-more f (x ∷ l) (suc i) h = ap (λ (r : List ℕ). f x ∷ r) (front-more f l i (omega arith))
 
-pub straight-more : (l to : List ℕ) (i v : ℕ) → i < length l → to ≡ straightened l i → v ≡ straight (getD to i 0) → set to i v ≡ straightened l (i + 1)
-unfolding straightened
-straight-more l to i v h e s =
+pub restore-kind-more : (l to : List ℕ) (i v : ℕ) → i < length l → to ≡ restoreKinds l i → v ≡ restoreKind (getD to i 0) → set to i v ≡ restoreKinds l (i + 1)
+unfolding restoreKinds
+restore-kind-more l to i v h e s =
     let f : i + 1 ≡ suc i = omega arith in
-    rw (s, e, f) (front-more straight l i h)
+    rw (s, e, f) (front-more restoreKind l i h)
 
-pub straight-start : (l : List ℕ) → l ≡ straightened l 0
-unfolding straightened
-straight-start l = refl
+pub restore-kind-start : (l : List ℕ) → l ≡ restoreKinds l 0
+unfolding restoreKinds
+restore-kind-start l = refl

@@ -10,13 +10,13 @@ use Rattle.facts.proofs.Bools.{by-cases}
 use Rattle.classes.specs.declared.Shape.{Shape}
 use Rattle.classes.specs.Shape.{shapeOf}
 use Rattle.fields.specs.Field.{page, carved, free, get}
-use Rattle.model.specs.declared.Spot.{Spot}
-use Rattle.model.specs.declared.Spot.the-variants.{ToEmpty, ToCold, ToArena}
-use Rattle.model.specs.Spot.{arenaFate}
+use Rattle.model.specs.declared.Destination.{Destination}
+use Rattle.model.specs.declared.Destination.the-variants.{ToEmpty, ToCold, ToArena}
+use Rattle.model.specs.Destination.{arenaFate}
 use Rattle.model.specs.Release.{ofKind}
 use Rattle.pages.specs.Stack.{back, indexOf}
 use Rattle.calls.specs.Out.{startOf, outFault}
-use Rattle.calls.specs.Release.{Released, releasedNone, releaseBlocks, releaseFair, firstOf, lastStep, giveBackAt, parkAt, parkAs, unlisted, spotAt}
+use Rattle.calls.specs.Release.{Released, releasedNone, releaseBlocks, releaseValid, firstOf, lastStep, giveBackAt, parkAt, parkAs, unlisted, destinationAt}
 use Rattle.take.proofs.TakeSpares.{Spares, call-spares}
 use Rattle.trace.specs.Words.{takeNow, backNow, classAt, ownerAt, known}
 use Rattle.trace.specs.Trace.{blank}
@@ -32,16 +32,16 @@ next b false k r h = h
 done : {b : List ℕ} {r : Released} → r .code ≡ 0 → Keeps b r
 done e = record { keeps = λ z. absurd (z e) }
 
-spot-zero : (d : List ℕ) (c : ℕ) (sh : Shape) (h q : ℕ) (s : Spot) → parkAs d c sh h q s .code ≡ 0
-spot-zero d c sh h q ToEmpty = refl
-spot-zero d c sh h q ToCold = refl
-spot-zero d c sh h q ToArena = refl
+destination-zero : (d : List ℕ) (c : ℕ) (sh : Shape) (h q : ℕ) (s : Destination) → parkAs d c sh h q s .code ≡ 0
+destination-zero d c sh h q ToEmpty = refl
+destination-zero d c sh h q ToCold = refl
+destination-zero d c sh h q ToArena = refl
 
 pub give-zero : (b : List ℕ) (c : ℕ) (sh : Shape) (h q : ℕ) (is : List ℕ) → giveBackAt b c sh h q is .code ≡ 0
 unfolding giveBackAt parkAt
 give-zero b c sh h q is =
     by-cases (eqb (get (back b q is) (page carved q)) (get (back b q is) (page free q)))
-    (λ e. rw e (spot-zero (unlisted (back b q is) c q) c sh h q (spotAt (back b q is) c sh))) (λ e. rw e)
+    (λ e. rw e (destination-zero (unlisted (back b q is) c q) c sh h q (destinationAt (back b q is) c sh))) (λ e. rw e)
 
 last-zero : (sh : Shape) (q : ℕ) (r : Released) → r .code ≡ 0 → lastStep sh q r .code ≡ 0
 last-zero sh q r e = by-cases (eqb (r .fate) arenaFate) (λ u. rw u e) (λ u. rw u e)
@@ -55,7 +55,7 @@ release-keeps n b c sh h ws =
     (next b (not (every (ofKind (sh .kind)) ws)) 9 _
     (next b (not (eqb (outFault n b c sh ws) 0)) (outFault n b c sh ws) _
     (next b (not (every (λ w. eqb (startOf b w) q) ws)) 11 _
-    (next b (not (releaseFair n b c sh (length ws) q)) 13 _ act))))
+    (next b (not (releaseValid n b c sh (length ws) q)) 13 _ act))))
 
 pub back-keeps : (n : ℕ) (b : List ℕ) (w : ℕ) → (backNow n b w .code ≡ 0 → ⊥) → backNow n b w .book ≡ b
 unfolding backNow

@@ -23,7 +23,7 @@ use Rattle.trace.specs.declared.steps.Tally.{Tally}
 use Rattle.trace.specs.declared.steps.Step.the-variants.{Stops, Goes}
 use Rattle.trace.specs.Trace as Trace
 use Rattle.trace.specs.Trace.{max}
-use Rattle.trace.specs.Words.{isBlock, turned, straight, sizeOf, backNow, classAt}
+use Rattle.trace.specs.Words.{isBlock, flipKind, restoreKind, sizeOf, backNow, classAt}
 use Rattle.trace.specs.way.Steps.{lent, CarriedBlocks}
 use Rattle.trace.proofs.Refused.{back-keeps}
 
@@ -37,22 +37,22 @@ module _ (w k : ℕ) (e : k ≡ kindOf w) where
   kind-two : isBlock w ≡ true → (k ≡ 1 → ⊥) → kindOf w ≡ 2
   kind-two h z = by-cases (eqb (kindOf w) 2) (λ u. eqb-true (kindOf w) 2 u) (λ u. absurd (false≢true (rw (← e, ne-eqb k 1 z) at (rw u at h))))
 
-  pub turn-one : (r : ℕ) → k ≡ 1 → r ≡ packBlock 0 (granuleOf w) → r ≡ turned w
-  turn-one r z f = let y : w - 2 ^ 62 ≡ 0 + granuleOf w = omega arith in f ∙ rw (mod-eq-of-lt (granule-lt w), ← e, z) (sym y)
+  pub flip-kind-one : (r : ℕ) → k ≡ 1 → r ≡ packBlock 0 (granuleOf w) → r ≡ flipKind w
+  flip-kind-one r z f = let y : w - 2 ^ 62 ≡ 0 + granuleOf w = omega arith in f ∙ rw (mod-eq-of-lt (granule-lt w), ← e, z) (sym y)
 
-  pub turn-two : (r : ℕ) → isBlock w ≡ true → (k ≡ 1 → ⊥) → r ≡ packBlock 3 (granuleOf w) → r ≡ turned w
-  turn-two r h z f =
+  pub flip-kind-two : (r : ℕ) → isBlock w ≡ true → (k ≡ 1 → ⊥) → r ≡ packBlock 3 (granuleOf w) → r ≡ flipKind w
+  flip-kind-two r h z f =
       let y : w + 2 ^ 62 ≡ 3 * 2 ^ 62 + granuleOf w = omega (arith, kind-two h z) in
       f ∙ rw (mod-eq-of-lt (granule-lt w), ← e, ne-eqb k 1 z) (sym y)
 
-  pub straight-none : (r : ℕ) → k ≡ 0 → r ≡ packBlock 1 (granuleOf w) → r ≡ straight w
-  straight-none r z f = let y : w + 2 ^ 62 ≡ 1 * 2 ^ 62 + granuleOf w = omega arith in f ∙ rw (mod-eq-of-lt (granule-lt w), ← e, z) (sym y)
+  pub restore-kind-none : (r : ℕ) → k ≡ 0 → r ≡ packBlock 1 (granuleOf w) → r ≡ restoreKind w
+  restore-kind-none r z f = let y : w + 2 ^ 62 ≡ 1 * 2 ^ 62 + granuleOf w = omega arith in f ∙ rw (mod-eq-of-lt (granule-lt w), ← e, z) (sym y)
 
-  pub straight-three : (r : ℕ) → (k ≡ 0 → ⊥) → k ≡ 3 → r ≡ packBlock 2 (granuleOf w) → r ≡ straight w
-  straight-three r y z f = let x : w - 2 ^ 62 ≡ 2 * 2 ^ 62 + granuleOf w = omega arith in f ∙ rw (mod-eq-of-lt (granule-lt w), ← e, z) (sym x)
+  pub restore-kind-three : (r : ℕ) → (k ≡ 0 → ⊥) → k ≡ 3 → r ≡ packBlock 2 (granuleOf w) → r ≡ restoreKind w
+  restore-kind-three r y z f = let x : w - 2 ^ 62 ≡ 2 * 2 ^ 62 + granuleOf w = omega arith in f ∙ rw (mod-eq-of-lt (granule-lt w), ← e, z) (sym x)
 
-  pub straight-else : (k ≡ 0 → ⊥) → (k ≡ 3 → ⊥) → w ≡ straight w
-  straight-else y z = rw (← e, ne-eqb k 0 y, ne-eqb k 3 z)
+  pub restore-kind-else : (k ≡ 0 → ⊥) → (k ≡ 3 → ⊥) → w ≡ restoreKind w
+  restore-kind-else y z = rw (← e, ne-eqb k 0 y, ne-eqb k 3 z)
 
 pub block-yes : (w : ℕ) (r : Bool) → r ≡ isBlock w → not r ≡ false → isBlock w ≡ true
 block-yes w r e y = sym e ∙ not-false r y
@@ -108,15 +108,15 @@ module _ (n : ℕ) (b bl : List ℕ) (t : Tally) (p : ℕ) where
         let z : backNow n b (getD bl p 0) .code ≡ 0 → ⊥ = λ y. told-fate (backNow n b (getD bl p 0) .code) (backNow n b (getD bl p 0) .fate) k (sym (a .answer) ∙ e) y in
         record { reason = rw (within h, ne-eqb (backNow n b (getD bl p 0) .code) 0 z) (or-true (not (isBlock (getD bl p 0)))); same = ap (λ (d : List ℕ). lent d bl fl) (a .left ∙ back-keeps n b (getD bl p 0) z) }
 
-    pub back-went : (r : Bool) (f v cl size : ℕ) (t′ : Tally) → p < t .at → r ≡ isBlock (getD bl p 0) → not r ≡ false → o ≡ Fate f → v ≡ turned (getD bl p 0) → cl ≡ classAt n b (getD bl p 0) → size ≡ sizeOf cl
-        → t′ ≡ record { at = t .at; told = t .told; out = t .out - 1; bytes = t .bytes - size; highest = max (t .highest) (t .bytes - size) }
+    pub back-went : (r : Bool) (f v cl size : ℕ) (t′ : Tally) → p < t .at → r ≡ isBlock (getD bl p 0) → not r ≡ false → o ≡ Fate f → v ≡ flipKind (getD bl p 0) → cl ≡ classAt n b (getD bl p 0) → size ≡ sizeOf cl
+        → t′ ≡ record { at = t .at; written = t .written; out = t .out - 1; bytes = t .bytes - size; highest = max (t .highest) (t .bytes - size) }
         → CarriedBlocks (Goes t′) n (Trace.back p) b bl t b′ (set bl p v)
     back-went r f v cl size t′ h e y i j q g s fl =
         let z : backNow n b (getD bl p 0) .code ≡ 0 = told-refused (backNow n b (getD bl p 0) .code) (backNow n b (getD bl p 0) .fate) f (sym (a .answer) ∙ i) in
         let k : isBlock (getD bl p 0) ≡ true = sym e ∙ not-false r y in
         rw s (record {
           free = rw (within h, k, z);
-          goes = rw (within h, j, g, q, a .left, take-set (t .at) bl p (turned (getD bl p 0)) h);
+          goes = rw (within h, j, g, q, a .left, take-set (t .at) bl p (flipKind (getD bl p 0)) h);
           blocks = drop-set-lt (t .at) bl p v h;
           figures = refl;
           further = (omega arith, omega arith);

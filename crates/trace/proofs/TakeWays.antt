@@ -23,7 +23,7 @@ use Rattle.trace.specs.declared.steps.Step.the-variants.{Stops, Goes}
 use Rattle.trace.specs.Trace as Trace
 use Rattle.trace.specs.Trace.{max, blank}
 use Rattle.trace.specs.Words.{takeNow, sizeOf, bytesMax}
-use Rattle.trace.specs.way.Asks.{MoreAsks, TakesAt, mayTake}
+use Rattle.trace.specs.way.Pre.{MorePre, TakesAt, mayTake}
 use Rattle.trace.specs.way.Steps.{CarriedBlocks}
 use Rattle.trace.proofs.Refused.{take-spares}
 use Rattle.trace.proofs.StepWays.{or-true}
@@ -103,14 +103,14 @@ module _ (n : ℕ) (b bl : List ℕ) (t : Tally) (c : ℕ) (a : t .at ≤ length
         listed : m ≤ length (takeNow n b c .list)
         listed = rw counted (take-spares n b c .within)
 
-        pub take-more : t .out ≤ t .at → length bl < 2 ^ 64 → MoreAsks t m size
+        pub take-more : t .out ≤ t .at → length bl < 2 ^ 64 → MorePre t m size
         take-more out long =
             let low : size ≤ 524288 = omega (arith, s, size-low c) in
             let few-blocks : m ≤ 64 = omega (arith, counted, x .few) in
             let p : m * size ≤ 64 * 524288 = mul-le-mul few-blocks low in
             record { at = omega (arith, room); out = omega (arith, room); bytes = omega (arith, p, few-bytes) }
 
-        pub take-went : (t′ : Tally) → t′ ≡ record { at = t .at + m; told = t .told; out = t .out + m; bytes = t .bytes + m * size; highest = max (t .highest) (t .bytes + m * size) }
+        pub take-went : (t′ : Tally) → t′ ≡ record { at = t .at + m; written = t .written; out = t .out + m; bytes = t .bytes + m * size; highest = max (t .highest) (t .bytes + m * size) }
             → CarriedBlocks (Goes t′) n (Trace.take c) b bl t b′ bl′
         take-went t′ u fl =
             let y = takeNow n b c in

@@ -12,12 +12,12 @@ use Rattle.pages.specs.Stack.{pageAt}
 use Rattle.calls.specs.Release.{releaseBlocks}
 use Rattle.release.specs.declared.Released.{Released}
 use Rattle.release.specs.declared.Released.the-variants.{Refused, Fate}
-use Rattle.release.specs.way.Asks.{ClassAsks}
+use Rattle.release.specs.way.Pre.{ClassPre}
 use Rattle.release.specs.way.Act.{Answered}
 use Rattle.release.specs.way.One.{OneBack}
 use Rattle.release.proofs.OneSteps.{one-left, one-carried}
 use Rattle.trace.specs.Words.{ownerAt, backNow}
-use Rattle.trace.specs.way.Asks.{BookAsks}
+use Rattle.trace.specs.way.Pre.{BookPre}
 
 -- ---- a block's page
 pub owner-in : (n : ℕ) (b : List ℕ) (w p r : ℕ) → p ≡ pageAt w → p < n → r ≡ get b (page owner p) → r ≡ ownerAt n b w
@@ -38,19 +38,19 @@ module _ (n : ℕ) (b : List ℕ) (w k : ℕ) (e : k ≡ ownerAt n b w) where
   unfolding backNow
   back-high z h = rw (← e, le-leb 1 k (omega (arith, z)), lt-leb k 76 h) (record { answer = refl; left = refl })
 
-  pub back-asks : (k ≡ 0 → ⊥) → k ≤ 76 → BookAsks n b → ClassAsks n b (k - 1) (shapeOf (k - 1))
-  back-asks z h a = record { known = omega (arith, z); sound = shape-sound (k - 1); few = a .few; long = a .long }
+  pub back-pre : (k ≡ 0 → ⊥) → k ≤ 76 → BookPre n b → ClassPre n b (k - 1) (shapeOf (k - 1))
+  back-pre z h a = record { known = omega (arith, z); sound = shape-sound (k - 1); few = a .few; long = a .long }
 
   done : (k ≡ 0 → ⊥) → k ≤ 76 → (r : Released) (b′ : List ℕ) → Answered r b′ (releaseBlocks n b (k - 1) (shapeOf (k - 1)) 15 (w ∷ [])) → Answered r b′ (backNow n b w)
   unfolding backNow
   done z h r b′ a = rw (← e, le-leb 1 k (omega (arith, z)), le-leb k 76 h) a
 
   module _ (z : k ≡ 0 → ⊥) (h : k ≤ 76) (t : Bool) (b′ : List ℕ) (o : OneBack t b′ n b (k - 1) (shapeOf (k - 1)) w) where
-    pub back-one : t ≡ true → BookAsks n b → Answered (Fate 0) b′ (backNow n b w)
-    back-one x a = done z h (Fate 0) b′ (one-carried n b (k - 1) (shapeOf (k - 1)) w t b′ o (back-asks z h a) x 15)
+    pub back-one : t ≡ true → BookPre n b → Answered (Fate 0) b′ (backNow n b w)
+    back-one x a = done z h (Fate 0) b′ (one-carried n b (k - 1) (shapeOf (k - 1)) w t b′ o (back-pre z h a) x 15)
 
-    pub rest-asks : t ≡ false → BookAsks n b → ClassAsks n b′ (k - 1) (shapeOf (k - 1))
-    rest-asks x a = rw (one-left n b (k - 1) (shapeOf (k - 1)) w t b′ o x) (back-asks z h a)
+    pub rest-pre : t ≡ false → BookPre n b → ClassPre n b′ (k - 1) (shapeOf (k - 1))
+    rest-pre x a = rw (one-left n b (k - 1) (shapeOf (k - 1)) w t b′ o x) (back-pre z h a)
 
     pub back-rest : t ≡ false → (h : ℕ) → h ≡ 15 → (r : Released) (b″ : List ℕ) → Answered r b″ (releaseBlocks n b′ (k - 1) (shapeOf (k - 1)) h (w ∷ [])) → Answered r b″ (backNow n b w)
     back-rest x g e r b″ a = done z h r b″ (rw (e, one-left n b (k - 1) (shapeOf (k - 1)) w t b′ o x) at a)

@@ -19,7 +19,7 @@ use Rattle.fields.specs.Ranges.{lengthFault}
 use Rattle.words.specs.Host.{hostMax}
 use Rattle.arena.specs.Open.{opened}
 use Rattle.direct.specs.declared.Report.{Report}
-use Rattle.direct.specs.declared.Report.the-variants.{Refused, Told}
+use Rattle.direct.specs.declared.Report.the-variants.{Refused, Reported}
 use Rattle.direct.specs.Answer.{reportOf}
 use Rattle.calls.specs.Take.{Took, takeCall}
 use Rattle.pages.specs.Stack.{pageAt}
@@ -49,67 +49,67 @@ backNow n b w =
     let c = classAt n b w in
     cond (known (ownerAt n b w)) (releaseBlocks n b c (shapeOf c) hostMax (w ∷ [])) (releasedNone b 10)
 
--- ---- the words handed out, as the lent list has them on the way: the word of a released one has its kind turned, 1 to 0 and 2 to 3, so that the
--- list itself tells in one step which are out; at the end all are turned back
+-- ---- the words handed out, as the lent list has them on the way: the word of a released one has its kind flipped, 1 to 0 and 2 to 3, so that the
+-- list itself tells in one step which are out; at the end all are restored
 abbrev pub isBlock : ℕ → Bool
 isBlock w = eqb (kindOf w) 1 || eqb (kindOf w) 2
 
-abbrev pub turned : ℕ → ℕ
-turned w = cond (eqb (kindOf w) 1) (w - 2 ^ kindBits) (w + 2 ^ kindBits)
+abbrev pub flipKind : ℕ → ℕ
+flipKind w = cond (eqb (kindOf w) 1) (w - 2 ^ kindBits) (w + 2 ^ kindBits)
 
-abbrev pub straight : ℕ → ℕ
-straight w = cond (eqb (kindOf w) 0) (w + 2 ^ kindBits) (cond (eqb (kindOf w) 3) (w - 2 ^ kindBits) w)
+abbrev pub restoreKind : ℕ → ℕ
+restoreKind w = cond (eqb (kindOf w) 0) (w + 2 ^ kindBits) (cond (eqb (kindOf w) 3) (w - 2 ^ kindBits) w)
 
 abbrev pub outAt : ℕ → List ℕ → Bool
 outAt p ms = isBlock (getD ms p 0)
 
 abbrev pub backAt : ℕ → List ℕ → List ℕ
-backAt p ms = set ms p (turned (getD ms p 0))
+backAt p ms = set ms p (flipKind (getD ms p 0))
 
 -- ---- how far it has come
 pub record Going : Type 0 where
   pub book : List ℕ
-  pub marks : List ℕ  -- the words handed out, those of released ones turned
+  pub listed : List ℕ  -- the words handed out, those of released ones flipped
   pub figures : List ℕ
   pub out : ℕ  -- blocks out
   pub bytes : ℕ  -- their bytes
   pub highest : ℕ
 
 abbrev pub begins : List ℕ → Going
-begins b = record { book = b; marks = []; figures = []; out = 0; bytes = 0; highest = 0 }
+begins b = record { book = b; listed = []; figures = []; out = 0; bytes = 0; highest = 0 }
 
 abbrev pub sizeOf : ℕ → ℕ
 sizeOf c = shapeOf c .block * granuleBytes
 
 abbrev pub come : Going → List ℕ → List ℕ → ℕ → ℕ → Going
-come g b ms k m = record { book = b; marks = ms; figures = g .figures; out = k; bytes = m; highest = max (g .highest) m }
+come g b ms k m = record { book = b; listed = ms; figures = g .figures; out = k; bytes = m; highest = max (g .highest) m }
 
 abbrev pub took : Going → ℕ → Took → Going
-took g c t = come g (t .book) (g .marks ++ blocksOf t) (g .out + t .count) (g .bytes + t .count * sizeOf c)
+took g c t = come g (t .book) (g .listed ++ blocksOf t) (g .out + t .count) (g .bytes + t .count * sizeOf c)
 
 abbrev pub gaveBack : ℕ → Going → ℕ → ℕ → Going
-gaveBack n g p w = come g (backNow n (g .book) w .book) (backAt p (g .marks)) (g .out - 1) (g .bytes - sizeOf (classAt n (g .book) w))
+gaveBack n g p w = come g (backNow n (g .book) w .book) (backAt p (g .listed)) (g .out - 1) (g .bytes - sizeOf (classAt n (g .book) w))
 
 -- pages held and idle are those of a report
 abbrev pub heldIn : Report → ℕ
 heldIn (Refused k) = 0
-heldIn (Told f) = f .held
+heldIn (Reported f) = f .held
 
 abbrev pub idleIn : Report → ℕ
 idleIn (Refused k) = 0
-idleIn (Told f) = f .idle
+idleIn (Reported f) = f .idle
 
-abbrev pub untold : Report → Bool
-untold (Refused k) = true
-untold (Told f) = false
+abbrev pub unreported : Report → Bool
+unreported (Refused k) = true
+unreported (Reported f) = false
 
 abbrev pub five : ℕ → Going → List ℕ
 five n g = g .out ∷ g .bytes ∷ heldIn (reportOf n (g .book)) ∷ idleIn (reportOf n (g .book)) ∷ g .highest ∷ []
 
 abbrev pub does : ℕ → Going → Say → Going
 does n g (Trace.take c) = took g c (takeNow n (g .book) c)
-does n g (Trace.back p) = gaveBack n g p (getD (g .marks) p 0)
-does n g Trace.report = record { book = g .book; marks = g .marks; figures = g .figures ++ five n g; out = g .out; bytes = g .bytes; highest = g .highest }
+does n g (Trace.back p) = gaveBack n g p (getD (g .listed) p 0)
+does n g Trace.report = record { book = g .book; listed = g .listed; figures = g .figures ++ five n g; out = g .out; bytes = g .bytes; highest = g .highest }
 does n g Trace.wrong = g
 
 abbrev pub after : ℕ → Going → ℕ → Going
@@ -126,9 +126,9 @@ refused k = not (eqb k 0)
 abbrev pub stopsAs : ℕ → Room → Going → Say → Bool
 stopsAs n m g (Trace.take c) =
     let t = takeNow n (g .book) c in
-    refused (t .code) || (ltb bytesMax (g .bytes) || ltb (m .blocks) (length (g .marks) + t .count))
-stopsAs n m g (Trace.back p) = not (outAt p (g .marks)) || refused (backNow n (g .book) (getD (g .marks) p 0) .code)
-stopsAs n m g Trace.report = ltb (m .figures) (length (g .figures) + 5) || untold (reportOf n (g .book))
+    refused (t .code) || (ltb bytesMax (g .bytes) || ltb (m .blocks) (length (g .listed) + t .count))
+stopsAs n m g (Trace.back p) = not (outAt p (g .listed)) || refused (backNow n (g .book) (getD (g .listed) p 0) .code)
+stopsAs n m g Trace.report = ltb (m .figures) (length (g .figures) + 5) || unreported (reportOf n (g .book))
 stopsAs n m g Trace.wrong = true
 
 abbrev pub stops : ℕ → Room → Going → ℕ → Bool
@@ -158,9 +158,9 @@ abbrev pub ending : ℕ → List ℕ → List ℕ → List ℕ → Going → Tra
 ending k ws bl fl g = record {
   code = cond (eqb k (length ws)) 0 16;
   book = g .book;
-  blocks = map straight (g .marks) ++ drop (length (g .marks)) bl;
+  blocks = map restoreKind (g .listed) ++ drop (length (g .listed)) bl;
   figures = g .figures ++ drop (length (g .figures)) fl;
-  done = k ∷ length (g .marks) ∷ length (g .figures) ∷ [];
+  done = k ∷ length (g .listed) ∷ length (g .figures) ∷ [];
 }
 
 -- numbers 1 and 2 first, by which nothing is changed; then it opens, and goes on from the opened book

@@ -1,3 +1,3 @@
-pub mod Asks
+pub mod Pre
 pub mod Steps
 pub mod Course

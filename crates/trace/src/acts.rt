@@ -2,13 +2,13 @@
 ghost use mathlib.Core.Path.{_≡_};
 ghost use lib.Dec.{leb};
 ghost use Rattle.words.specs.Host.{hostMax};
-ghost use Rattle.take.specs.way.TakePlan.{CallAsks};
+ghost use Rattle.take.specs.way.TakePlan.{CallPre};
 ghost use Rattle.release.specs.way.Act.{Answered};
 ghost use Rattle.trace.specs.Words.{ownerAt, classAt, takeNow, backNow};
-ghost use Rattle.trace.specs.way.Asks.{BookAsks, TakesAt};
+ghost use Rattle.trace.specs.way.Pre.{BookPre, TakesAt};
 ghost use Prim.Native.Nat.{_+_, _≤_};
 ghost use lib.ListN.{length};
-use crate::lists::lay;
+use crate::lists::paste;
 use release::Released;
 use take::call::Take;
 use words::Host;
@@ -23,7 +23,7 @@ fn all_granted() -> u32
 
 // OWNER of the block's page: its class and 1. No book is read beyond its pages.
 pub fn owner_at(meta: &[u32], n: u32, w: u64) -> u32
-    requires { ⌜ BookAsks n (now meta) ⌝ }
+    requires { ⌜ BookPre n (now meta) ⌝ }
     ensures { λ r. ⌜ r ≡ ownerAt n (now (meta .entry)) w ⌝ }
 {
     let p = pages::page_at(w);
@@ -35,7 +35,7 @@ pub fn owner_at(meta: &[u32], n: u32, w: u64) -> u32
 
 // The class that the block was taken from.
 pub fn class_at(meta: &[u32], n: u32, w: u64) -> u32
-    requires { ⌜ BookAsks n (now meta) ⌝ }
+    requires { ⌜ BookPre n (now meta) ⌝ }
     ensures { λ r. ⌜ r ≡ classAt n (now (meta .entry)) w ⌝ }
 {
     let k = owner_at(meta, n, w);
@@ -47,7 +47,7 @@ pub fn class_at(meta: &[u32], n: u32, w: u64) -> u32
 
 // The release of one block, in the class that its page is of. A list is made only where `release_one` leaves it.
 pub fn back_now(meta: &mut [u32], n: u32, w: u64) -> Released
-    requires { ⌜ BookAsks n (now meta) ⌝ }
+    requires { ⌜ BookPre n (now meta) ⌝ }
     ensures { λ r. ⌜ Answered r (now (meta .exit)) (backNow n (now (meta .entry)) w) ⌝ }
 {
     let k = owner_at(meta, n, w);
@@ -66,7 +66,7 @@ pub fn back_now(meta: &mut [u32], n: u32, w: u64) -> Released
 
 // Is there room for the blocks of a take: for 64 there always is; else they are counted first.
 pub fn has_room(meta: &[u32], n: u32, c: u32, room: usize) -> bool
-    requires { ⌜ CallAsks n (now meta) c ⌝ }
+    requires { ⌜ CallPre n (now meta) c ⌝ }
     ensures { λ r. ⌜ r ≡ leb (takeNow n (now (meta .entry)) c .count) room ⌝ }
 {
     if 64 <= room {
@@ -77,7 +77,7 @@ pub fn has_room(meta: &[u32], n: u32, c: u32, room: usize) -> bool
 
 // A take whose blocks come to the list from place `at` on.
 pub fn take_now(meta: &mut [u32], n: u32, c: u32, blocks: &mut [u64], at: usize) -> Take
-    requires { ⌜ CallAsks n (now meta) c ⌝ }
+    requires { ⌜ CallPre n (now meta) c ⌝ }
     requires { ⌜ at + takeNow n (now meta) c .count ≤ length (now blocks) ⌝ }
     ensures { λ r. ⌜ TakesAt r (now (meta .exit)) (now (blocks .exit)) (takeNow n (now (meta .entry)) c) (now (blocks .entry)) at ⌝ }
 {
@@ -85,7 +85,7 @@ pub fn take_now(meta: &mut [u32], n: u32, c: u32, blocks: &mut [u64], at: usize)
     match take::call::take_call(meta, n, c, all_granted(), &mut list) {
         Take::Refused(k) => Take::Refused(k),
         Take::Took(m, v) => {
-            lay(blocks, at, &list, m as usize);
+            paste(blocks, at, &list, m as usize);
             Take::Took(m, v)
         }
     }

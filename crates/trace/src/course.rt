@@ -7,8 +7,8 @@ ghost use Rattle.rules.specs.Rules.{rulesOf};
 ghost use Rattle.arena.specs.Open.{opened};
 ghost use Rattle.trace.specs.way.Steps.{lent};
 ghost use Rattle.trace.specs.way.Course.{Coursed, Ran};
-ghost use Rattle.trace.specs.way.Asks.{BookAsks};
-use crate::lists::straighten;
+ghost use Rattle.trace.specs.way.Pre.{BookPre};
+use crate::lists::restore_kinds;
 use crate::steps::Step;
 use crate::steps::Tally;
 use crate::steps::word;
@@ -26,12 +26,12 @@ pub fn carry_out(
     blocks: &mut [u64],
     figures: &mut [u64],
 ) -> Course
-    requires { ⌜ BookAsks n (now meta) ⌝ }
+    requires { ⌜ BookPre n (now meta) ⌝ }
     ensures { λ r. ⌜ Coursed r n (lent (now (meta .entry)) (now (blocks .entry)) (now (figures .entry))) (lent (now (meta .exit)) (now (blocks .exit)) (now (figures .exit))) (now (trace .entry)) ⌝ }
 {
     let mut t = Tally {
         at: 0,
-        told: 0,
+        written: 0,
         out: 0,
         bytes: 0,
         highest: 0,
@@ -72,11 +72,11 @@ pub fn run(
     blocks: &mut [u64],
     figures: &mut [u64],
 ) -> Course
-    requires { ⌜ BookAsks n (now meta) ⌝ }
+    requires { ⌜ BookPre n (now meta) ⌝ }
     ensures { λ r. ⌜ Ran r n (lent (now (meta .entry)) (now (blocks .entry)) (now (figures .entry))) (lent (now (meta .exit)) (now (blocks .exit)) (now (figures .exit))) (now (trace .entry)) ⌝ }
 {
     open_plain(meta, n);
     let course = carry_out(meta, n, trace, blocks, figures);
-    straighten(blocks, course.tally.at);
+    restore_kinds(blocks, course.tally.at);
     course
 }

@@ -5,8 +5,8 @@ ghost use Prim.Native.Nat.{_+_, _≤_};
 ghost use lib.ListN.{length};
 ghost use lib.Seq.{paste};
 ghost use Rattle.words.specs.Word.{kindOf, granuleOf, packBlock};
-ghost use Rattle.trace.specs.Words.{isBlock, turned, straight};
-ghost use Rattle.trace.specs.way.Asks.{straightened};
+ghost use Rattle.trace.specs.Words.{isBlock, flipKind, restoreKind};
+ghost use Rattle.trace.specs.way.Pre.{restoreKinds};
 use words::Word;
 
 fn kind_of(w: u64) -> u32
@@ -34,9 +34,9 @@ fn with_kind(kind: u32, w: u64) -> u64
 }
 
 // The word of a released block: its kind goes from 1 to 0, from 2 to 3.
-pub fn turn(w: u64) -> u64
+pub fn flip_kind(w: u64) -> u64
     requires { ⌜ isBlock w ≡ true ⌝ }
-    ensures { λ r. ⌜ r ≡ turned w ⌝ }
+    ensures { λ r. ⌜ r ≡ flipKind w ⌝ }
 {
     if kind_of(w) == Word::SMALL {
         return with_kind(Word::NONE, w);
@@ -45,7 +45,7 @@ pub fn turn(w: u64) -> u64
 }
 
 // The first m numbers of one list, words or figures, come to another, from place `at` on.
-pub fn lay(to: &mut [u64], at: usize, from: &[u64], m: usize)
+pub fn paste(to: &mut [u64], at: usize, from: &[u64], m: usize)
     requires { ⌜ (at + m ≤ length (now to)) × (m ≤ length (now from)) ⌝ }
     ensures { λ _. ⌜ now (to .exit) ≡ paste (now (to .entry)) at (now (from .entry)) m ⌝ }
 {
@@ -56,9 +56,9 @@ pub fn lay(to: &mut [u64], at: usize, from: &[u64], m: usize)
     }
 }
 
-// The word of a block as it was handed out: a released one's kind is turned back.
-fn straight(w: u64) -> u64
-    ensures { λ r. ⌜ r ≡ straight w ⌝ }
+// The word of a block as it was handed out: a released one's kind is restored.
+fn restore_kind(w: u64) -> u64
+    ensures { λ r. ⌜ r ≡ restoreKind w ⌝ }
 {
     let kind = kind_of(w);
     if kind == Word::NONE {
@@ -71,13 +71,13 @@ fn straight(w: u64) -> u64
 }
 
 // The first m words.
-pub fn straighten(blocks: &mut [u64], m: usize)
+pub fn restore_kinds(blocks: &mut [u64], m: usize)
     requires { ⌜ m ≤ length (now blocks) ⌝ }
-    ensures { λ _. ⌜ now (blocks .exit) ≡ straightened (now (blocks .entry)) m ⌝ }
+    ensures { λ _. ⌜ now (blocks .exit) ≡ restoreKinds (now (blocks .entry)) m ⌝ }
 {
     let mut i = 0;
     while i < m {
-        blocks[i] = straight(blocks[i]);
+        blocks[i] = restore_kind(blocks[i]);
         i += 1;
     }
 }

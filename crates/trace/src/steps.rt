@@ -7,16 +7,16 @@ ghost use Prim.Native.Nat.{_+_, _-_, _*_, _^_, _<_, _≤_};
 ghost use Rattle.trace.specs.Trace as Trace;
 ghost use Rattle.trace.specs.Trace.{max, sayOf};
 ghost use Rattle.trace.specs.Words.{sizeOf};
-ghost use Rattle.trace.specs.way.Asks.{BookAsks, MoreAsks, mayTake};
-ghost use Rattle.take.specs.way.TakePlan.{CallAsks};
-ghost use Rattle.trace.specs.way.Steps.{lent, BlocksAsks, TallyAsks, Carried, CarriedBlocks, CarriedReport};
+ghost use Rattle.trace.specs.way.Pre.{BookPre, MorePre, mayTake};
+ghost use Rattle.take.specs.way.TakePlan.{CallPre};
+ghost use Rattle.trace.specs.way.Steps.{lent, BlocksPre, TallyPre, Carried, CarriedBlocks, CarriedReport};
 use crate::acts::back_now;
 use crate::acts::class_at;
 use crate::acts::has_room;
 use crate::acts::take_now;
+use crate::lists::flip_kind;
 use crate::lists::is_block;
-use crate::lists::lay;
-use crate::lists::turn;
+use crate::lists::paste;
 use direct::Report;
 use release::Released;
 use take::call::Take;
@@ -27,7 +27,7 @@ const BYTES_MAX: u64 = 1_099_511_627_776;
 // Blocks handed out, figures written, blocks out, their bytes, and the highest bytes so far.
 pub struct Tally {
     pub at: usize,
-    pub told: usize,
+    pub written: usize,
     pub out: u64,
     pub bytes: u64,
     pub highest: u64,
@@ -58,13 +58,13 @@ fn size_of(c: u32) -> u64
 
 // The tally after m more blocks of so many bytes each.
 fn with(t: Tally, m: u32, size: u64) -> Tally
-    requires { ⌜ MoreAsks t m size ⌝ }
-    ensures { λ r. ⌜ r ≡ record { at = t .at + m; told = t .told; out = t .out + m; bytes = t .bytes + m * size; highest = max (t .highest) (t .bytes + m * size) } ⌝ }
+    requires { ⌜ MorePre t m size ⌝ }
+    ensures { λ r. ⌜ r ≡ record { at = t .at + m; written = t .written; out = t .out + m; bytes = t .bytes + m * size; highest = max (t .highest) (t .bytes + m * size) } ⌝ }
 {
     let bytes = t.bytes + m as u64 * size;
     Tally {
         at: t.at + m as usize,
-        told: t.told,
+        written: t.written,
         out: t.out + m as u64,
         bytes,
         highest: more(t.highest, bytes),
@@ -73,12 +73,12 @@ fn with(t: Tally, m: u32, size: u64) -> Tally
 
 // The tally after a release of a block of so many bytes.
 fn without(t: Tally, size: u64) -> Tally
-    ensures { λ r. ⌜ r ≡ record { at = t .at; told = t .told; out = t .out - 1; bytes = t .bytes - size; highest = max (t .highest) (t .bytes - size) } ⌝ }
+    ensures { λ r. ⌜ r ≡ record { at = t .at; written = t .written; out = t .out - 1; bytes = t .bytes - size; highest = max (t .highest) (t .bytes - size) } ⌝ }
 {
     let bytes = less(t.bytes, size);
     Tally {
         at: t.at,
-        told: t.told,
+        written: t.written,
         out: less(t.out, 1),
         bytes,
         highest: more(t.highest, bytes),
@@ -87,7 +87,7 @@ fn without(t: Tally, size: u64) -> Tally
 
 // "release of the block whose place in order of handing out (from 0) is in the low 30 bits".
 pub fn back_word(meta: &mut [u32], n: u32, blocks: &mut [u64], t: Tally, p: usize) -> Step
-    requires { ⌜ BlocksAsks n (now meta) (now blocks) t ⌝ }
+    requires { ⌜ BlocksPre n (now meta) (now blocks) t ⌝ }
     ensures { λ r. ⌜ CarriedBlocks r n (Trace.back p) (now (meta .entry)) (now (blocks .entry)) t (now (meta .exit)) (now (blocks .exit)) ⌝ }
 {
     if t.at <= p {
@@ -101,7 +101,7 @@ pub fn back_word(meta: &mut [u32], n: u32, blocks: &mut [u64], t: Tally, p: usiz
     match back_now(meta, n, w) {
         Released::Refused(_) => Step::Stops,
         Released::Fate(_) => {
-            blocks[p] = turn(w);
+            blocks[p] = flip_kind(w);
             Step::Goes(without(t, size))
         }
     }
@@ -109,7 +109,7 @@ pub fn back_word(meta: &mut [u32], n: u32, blocks: &mut [u64], t: Tally, p: usiz
 
 // Few bytes are out, and a list of so many places has room for the blocks of a take.
 fn may_take(meta: &[u32], n: u32, c: u32, t: Tally, places: usize) -> bool
-    requires { ⌜ CallAsks n (now meta) c ⌝ }
+    requires { ⌜ CallPre n (now meta) c ⌝ }
     requires { ⌜ t .at ≤ places ⌝ }
     ensures { λ r. ⌜ r ≡ mayTake n (now (meta .entry)) c t places ⌝ }
 {
@@ -121,7 +121,7 @@ fn may_take(meta: &[u32], n: u32, c: u32, t: Tally, places: usize) -> bool
 
 // "take from the class in the low 30 bits": its blocks come to the list behind those before them, if there is room for them.
 pub fn take_word(meta: &mut [u32], n: u32, blocks: &mut [u64], t: Tally, c: u32) -> Step
-    requires { ⌜ BlocksAsks n (now meta) (now blocks) t ⌝ }
+    requires { ⌜ BlocksPre n (now meta) (now blocks) t ⌝ }
     requires { ⌜ c < 76 ⌝ }
     ensures { λ r. ⌜ CarriedBlocks r n (Trace.take c) (now (meta .entry)) (now (blocks .entry)) t (now (meta .exit)) (now (blocks .exit)) ⌝ }
 {
@@ -136,12 +136,12 @@ pub fn take_word(meta: &mut [u32], n: u32, blocks: &mut [u64], t: Tally, c: u32)
 
 // The tally after a report.
 fn reported(t: Tally) -> Tally
-    requires { ⌜ t .told + 5 < 2 ^ 64 ⌝ }
-    ensures { λ r. ⌜ r ≡ record { at = t .at; told = t .told + 5; out = t .out; bytes = t .bytes; highest = t .highest } ⌝ }
+    requires { ⌜ t .written + 5 < 2 ^ 64 ⌝ }
+    ensures { λ r. ⌜ r ≡ record { at = t .at; written = t .written + 5; out = t .out; bytes = t .bytes; highest = t .highest } ⌝ }
 {
     Tally {
         at: t.at,
-        told: t.told + 5,
+        written: t.written + 5,
         out: t.out,
         bytes: t.bytes,
         highest: t.highest,
@@ -150,18 +150,18 @@ fn reported(t: Tally) -> Tally
 
 // "At each report five numbers are written".
 pub fn report_word(meta: &[u32], n: u32, figures: &mut [u64], t: Tally) -> Step
-    requires { ⌜ BookAsks n (now meta) × (t .told ≤ length (now figures)) ⌝ }
+    requires { ⌜ BookPre n (now meta) × (t .written ≤ length (now figures)) ⌝ }
     ensures { λ r. ⌜ CarriedReport r n (now (meta .entry)) (now (figures .entry)) t (now (figures .exit)) ⌝ }
 {
-    if figures.len() - t.told < 5 {
+    if figures.len() - t.written < 5 {
         return Step::Stops;
     }
     match direct::figures::report(meta, n) {
         Report::Refused(_) => Step::Stops,
-        Report::Told(f) => {
-            lay(
+        Report::Reported(f) => {
+            paste(
                 figures,
-                t.told,
+                t.written,
                 &[t.out, t.bytes, f.held, f.idle, t.highest],
                 5,
             );
@@ -188,7 +188,7 @@ pub fn word(
     figures: &mut [u64],
     t: Tally,
 ) -> Step
-    requires { ⌜ TallyAsks n (lent (now meta) (now blocks) (now figures)) t ⌝ }
+    requires { ⌜ TallyPre n (lent (now meta) (now blocks) (now figures)) t ⌝ }
     ensures { λ r. ⌜ Carried r n (sayOf w) (lent (now (meta .entry)) (now (blocks .entry)) (now (figures .entry))) t (lent (now (meta .exit)) (now (blocks .exit)) (now (figures .exit))) ⌝ }
 {
     let kind = w / 1_073_741_824;

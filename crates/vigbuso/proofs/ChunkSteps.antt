@@ -10,21 +10,21 @@ use Rattle.classes.specs.declared.Shape.{Shape}
 use Rattle.classes.specs.Shape.{shapeOf, smallShape}
 use Rattle.fields.specs.Field.{arena, size, get}
 use Rattle.calls.specs.Chunks.{ChunksReleased, releaseChunks}
-use Rattle.chunks.specs.way.CallAsks.{CallAsks, ChunksAnswered}
+use Rattle.chunks.specs.way.CallPre.{CallPre, ChunksAnswered}
 use Rattle.vigbuso.specs.Faults.{classFault}
 use Rattle.vigbuso.specs.Blocks.{chunksOn, ChunksEnds}
 use Rattle.vigbuso.proofs.FaultSteps.{class-book, class-below}
-use Rattle.vigbuso.proofs.ReleaseSteps.{class-asks}
+use Rattle.vigbuso.proofs.ReleaseSteps.{class-pre}
 
 -- a small class's run is one page
 one-page : (c : ℕ) → ltb c 64 ≡ true → shapeOf c .pages ≡ 1
 unfolding shapeOf smallShape
 one-page c e = rw e refl
 
-pub chunks-asks : (b : List ℕ) (h r c n : ℕ) (sh : Shape) → r ≡ classFault b h 64 c → r ≡ 0 → n ≡ get b (arena size) → sh ≡ shapeOf c → CallAsks n b c sh
-chunks-asks b h r c n sh e z f w =
+pub chunks-pre : (b : List ℕ) (h r c n : ℕ) (sh : Shape) → r ≡ classFault b h 64 c → r ≡ 0 → n ≡ get b (arena size) → sh ≡ shapeOf c → CallPre n b c sh
+chunks-pre b h r c n sh e z f w =
     let l = class-below b h 64 c r e z in
-    record { class = class-asks b c n sh (class-book b h 64 c r e z) (omega arith) f w; single = rw w (one-page c (lt-ltb c 64 l)) }
+    record { class = class-pre b c n sh (class-book b h 64 c r e z) (omega arith) f w; single = rw w (one-page c (lt-ltb c 64 l)) }
 
 ends : {o : ChunksReleased} {s : ℕ} {x y : List ℕ} → ChunksAnswered s x y o → ChunksEnds o s x y
 ends t = record { code = t .answer; book = t .left; fates = t .fates }

@@ -23,10 +23,10 @@ use Rattle.direct.specs.declared.Grow.{Grow}
 use Rattle.direct.specs.declared.Grow.the-variants.{Yes, No}
 use Rattle.model.specs.declared.Figures.{Figures}
 use Rattle.direct.specs.declared.Report.{Report}
-use Rattle.direct.specs.declared.Report.the-variants.{Told}
+use Rattle.direct.specs.declared.Report.the-variants.{Reported}
 use Rattle.arena.specs.Calls.{Committed, commitCall, Done, growCall, releaseCall, containsCall}
 use Rattle.arena.specs.Open.{opened}
-use Rattle.runs.specs.way.Asks.{BookIn}
+use Rattle.runs.specs.way.Pre.{BookIn}
 use Rattle.runs.specs.Answer.{answerOf, Answers}
 use Rattle.direct.specs.Answer.{grownAs, Releases, reportOf}
 use Rattle.direct.specs.way.Acts.{Grew}
@@ -174,5 +174,5 @@ module _ (o s : Report) (k : s ≡ o) where
   pub report-ends-refused : (c : ℕ) (fs : List ℕ) → s ≡ Report.Refused c → ReportEnds o c fs fs
   report-ends-refused c fs e = let z = sym k ∙ e in record { code = rw z; figures = rw z }
 
-  pub report-ends-told : (f : Figures) (fs : List ℕ) → s ≡ Told f → ReportEnds o 0 fs (figuresOut (Told f) fs)
+  pub report-ends-told : (f : Figures) (fs : List ℕ) → s ≡ Reported f → ReportEnds o 0 fs (figuresOut (Reported f) fs)
   report-ends-told f fs e = let z = sym k ∙ e in record { code = rw z; figures = rw z }

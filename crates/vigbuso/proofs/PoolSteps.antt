@@ -9,20 +9,20 @@ use Rattle.classes.specs.Shape.{shapeOf}
 use Rattle.fields.specs.Field.{arena, size, get}
 use Rattle.fields.specs.Ranges.{metaFault}
 use Rattle.model.specs.Release.{ofKind}
-use Rattle.take.specs.way.TakePlan.{CallAsks}
-use Rattle.stock.specs.way.Asks.{StockAsks}
-use Rattle.trace.specs.way.Asks.{BookAsks}
+use Rattle.take.specs.way.TakePlan.{CallPre}
+use Rattle.stock.specs.way.Pre.{StockPre}
+use Rattle.trace.specs.way.Pre.{BookPre}
 use Rattle.trace.specs.Words.{ownerAt, known}
-use Rattle.pool.specs.Pool.{Wish, alloc, free, trim, hostIn}
-use Rattle.poolcalls.specs.Calls.{wishOn, allocOn, freeOn, trimOn, grantedIn, stockedIn}
+use Rattle.pool.specs.Pool.{PoolRequest, alloc, free, trim, hostIn}
+use Rattle.poolcalls.specs.Calls.{requestOn, allocOn, freeOn, trimOn, grantedIn, stockedIn}
 use Rattle.vigbuso.specs.Faults.{classFault, admits}
 use Rattle.vigbuso.specs.Pool.{poolOn, classOn, grantedOn, stockedOn, BlockEnds, FreeEnds}
 use Rattle.vigbuso.proofs.FaultSteps.{admits-book, admits-class}
 use Rattle.vigbuso.proofs.DirectSteps.{book-in}
-use Rattle.vigbuso.proofs.TakeSteps.{take-asks}
+use Rattle.vigbuso.proofs.TakeSteps.{take-pre}
 
-pub pool-asks : (b : List ℕ) (h r c n : ℕ) → r ≡ classFault b h 76 c → r ≡ 0 → n ≡ get b (arena size) → CallAsks n b c
-pool-asks b h r c n e z f = let a = take-asks b h r 0 76 c n (omega arith) e z f in record { known = omega (arith, a .known); few = a .few; long = a .long }
+pub pool-pre : (b : List ℕ) (h r c n : ℕ) → r ≡ classFault b h 76 c → r ≡ 0 → n ≡ get b (arena size) → CallPre n b c
+pool-pre b h r c n e z f = let a = take-pre b h r 0 76 c n (omega arith) e z f in record { known = omega (arith, a .known); few = a .few; long = a .long }
 
 module _ (b : List ℕ) (c r h : ℕ) (e : r ≡ classFault b h 76 c) where
   module _ (d : r ≡ 0 → ⊥) where
@@ -39,7 +39,7 @@ module _ (b : List ℕ) (c r h : ℕ) (e : r ≡ classFault b h 76 c) where
     trim-unfit w = rw (← e, ne-eqb r 0 d) (record { code = refl; book = refl; block = refl })
 
   module _ (z : r ≡ 0) (n : ℕ) (f : n ≡ get b (arena size)) (s : ℕ) (b′ : List ℕ) where
-    goes : (x : Wish) → hostIn x ≡ h → poolOn b c x ≡ wishOn n b c x
+    goes : (x : PoolRequest) → hostIn x ≡ h → poolOn b c x ≡ requestOn n b c x
     unfolding poolOn
     goes x i = rw (i, ← e, eq-eqb r 0 z, f)
 
@@ -59,12 +59,12 @@ module _ (b : List ℕ) (w r : ℕ) (e : r ≡ metaFault b) where
   class-unfit d = rw (← e, ne-eqb r 0 d)
 
   module _ (z : r ≡ 0) where
-    pub book-fair : metaFault b ≡ 0
-    book-fair = sym e ∙ z
+    pub book-valid : metaFault b ≡ 0
+    book-valid = sym e ∙ z
 
     module _ (n : ℕ) (f : n ≡ get b (arena size)) where
-      pub owner-asks : BookAsks n b
-      owner-asks = let k = book-in b book-fair n f in record { few = k .small; long = k .long }
+      pub owner-pre : BookPre n b
+      owner-pre = let k = book-in b book-valid n f in record { few = k .small; long = k .long }
 
       module _ (k : ℕ) (ek : k ≡ ownerAt n b w) where
         held : classOn b w ≡ cond (known k) (k - 1) 76
@@ -92,13 +92,13 @@ module _ (b : List ℕ) (c : ℕ) (t : Bool) (e : t ≡ admits b c) where
   stocked-no z = rw (← e, z)
 
   module _ (z : t ≡ true) where
-    pub admitted-asks : (n : ℕ) → n ≡ get b (arena size) → CallAsks n b c
-    admitted-asks n f =
+    pub admitted-pre : (n : ℕ) → n ≡ get b (arena size) → CallPre n b c
+    admitted-pre n f =
         let k = book-in b (admits-book b c t e z) n f in
         record { known = admits-class b c t e z; few = k .small; long = k .long }
 
-    pub stock-asks : StockAsks b c
-    stock-asks = let a = admitted-asks (get b (arena size)) refl in record { known = a .known; long = omega (arith, a .long) }
+    pub stock-pre : StockPre b c
+    stock-pre = let a = admitted-pre (get b (arena size)) refl in record { known = a .known; long = omega (arith, a .long) }
 
     pub granted-is : (n w : ℕ) (g : Bool) → n ≡ get b (arena size) → g ≡ (ofKind (shapeOf c .kind) w && grantedIn n b c w) → g ≡ grantedOn b c w
     unfolding grantedOn

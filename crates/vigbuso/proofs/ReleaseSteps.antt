@@ -15,7 +15,7 @@ use Rattle.release.specs.declared.Released.{Released}
 use Rattle.release.specs.declared.Released.the-variants.{Refused, Fate}
 use Rattle.release.specs.way.Act.{Answered}
 use Rattle.release.specs.Answer.{answerAs}
-use Rattle.release.specs.way.Asks.{ClassAsks}
+use Rattle.release.specs.way.Pre.{ClassPre}
 use Rattle.vigbuso.specs.Faults.{classFault}
 use Rattle.vigbuso.specs.Blocks.{releaseOn, ReleaseEnds}
 use Rattle.vigbuso.proofs.FaultSteps.{class-book, class-below}
@@ -25,13 +25,13 @@ refusal : (k : ℕ) → (k ≡ 0 → ⊥) → (f : ℕ) → Refused k ≡ answer
 refusal zero d f = absurd (d refl)
 refusal (suc k) d f = refl
 
-pub class-asks : (b : List ℕ) (c n : ℕ) (sh : Shape) → metaFault b ≡ 0 → c < 76 → n ≡ get b (arena size) → sh ≡ shapeOf c → ClassAsks n b c sh
-class-asks b c n sh z j f w =
+pub class-pre : (b : List ℕ) (c n : ℕ) (sh : Shape) → metaFault b ≡ 0 → c < 76 → n ≡ get b (arena size) → sh ≡ shapeOf c → ClassPre n b c sh
+class-pre b c n sh z j f w =
     let k = book-in b z n f in
     record { known = j; sound = rw w (shape-sound c); few = k .small; long = k .long }
 
-pub release-asks : (b : List ℕ) (h r low many c n : ℕ) → low + many ≤ 76 → r ≡ classFault b h many c → r ≡ 0 → n ≡ get b (arena size) → ClassAsks n b (low + c) (shapeOf (low + c))
-release-asks b h r low many c n u e z f = class-asks b (low + c) n (shapeOf (low + c)) (class-book b h many c r e z) (omega (arith, class-below b h many c r e z)) f refl
+pub release-pre : (b : List ℕ) (h r low many c n : ℕ) → low + many ≤ 76 → r ≡ classFault b h many c → r ≡ 0 → n ≡ get b (arena size) → ClassPre n b (low + c) (shapeOf (low + c))
+release-pre b h r low many c n u e z f = class-pre b (low + c) n (shapeOf (low + c)) (class-book b h many c r e z) (omega (arith, class-below b h many c r e z)) f refl
 
 module _ (b : List ℕ) (h many c r : ℕ) (e : r ≡ classFault b h many c) (low : ℕ) (l : List ℕ) where
   pub release-unfit : (r ≡ 0 → ⊥) → Answered (Refused r) b (releaseOn low many b c h l)

@@ -12,7 +12,7 @@ use Rattle.words.specs.Host.{digit}
 use Rattle.calls.specs.Take.{takeCall}
 use Rattle.take.specs.way.TakeAnswer.{TakesInto}
 use Rattle.take.specs.Answer.{answerOf}
-use Rattle.take.specs.way.TakePlan.{CallAsks}
+use Rattle.take.specs.way.TakePlan.{CallPre}
 use Rattle.vigbuso.specs.Faults.{classFault}
 use Rattle.vigbuso.specs.Blocks.{takeOn, codeOut, countOut, virginOut, TakeEnds}
 use Rattle.vigbuso.proofs.FaultSteps.{class-book, class-below}
@@ -35,8 +35,8 @@ module _ (n : ℕ) (g : Bool) where
   virgin-is zero old = refl
   virgin-is (suc j) old = rw (ne-eqb (suc j) 0 (not-none j))
 
-pub take-asks : (b : List ℕ) (h r low many c n : ℕ) → low + many ≤ 76 → r ≡ classFault b h many c → r ≡ 0 → n ≡ get b (arena size) → CallAsks n b (low + c)
-take-asks b h r low many c n u e z f =
+pub take-pre : (b : List ℕ) (h r low many c n : ℕ) → low + many ≤ 76 → r ≡ classFault b h many c → r ≡ 0 → n ≡ get b (arena size) → CallPre n b (low + c)
+take-pre b h r low many c n u e z f =
     let k = book-in b (class-book b h many c r e z) n f in
     record { known = omega (arith, class-below b h many c r e z); few = k .small; long = k .long }
 

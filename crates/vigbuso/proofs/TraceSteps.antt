@@ -12,15 +12,15 @@ use Rattle.fields.specs.Ranges.{maxPages, lengthFault}
 use Rattle.arena.specs.Open.{opened}
 use Rattle.trace.specs.declared.course.Course.{Course}
 use Rattle.trace.specs.Words.{begins, carried, roomOf, traceOn}
-use Rattle.trace.specs.way.Asks.{BookAsks}
+use Rattle.trace.specs.way.Pre.{BookPre}
 use Rattle.trace.specs.way.Steps.{lent}
 use Rattle.trace.specs.way.Course.{Ran, endOf}
 use Rattle.vigbuso.specs.Trace.{TraceEnds}
 use Rattle.vigbuso.proofs.DirectSteps.{sides}
 
 module _ (b : List ℕ) (n k : ℕ) (e : k ≡ lengthFault n (length b)) where
-  pub trace-asks : k ≡ 0 → BookAsks n b
-  trace-asks z =
+  pub trace-pre : k ≡ 0 → BookPre n b
+  trace-pre z =
       let s = sides b n k e z in
       record { few = leb-true n maxPages (and-right (leb 1 n) _ (s .0)); long = leb-true (words n) (length b) (s .1) }
 
@@ -33,12 +33,12 @@ module _ (b : List ℕ) (n k : ℕ) (e : k ≡ lengthFault n (length b)) where
       came : r .carried ≡ carried n (roomOf bl fl) (begins (opened n (rulesOf []) b)) ws
       came = let h = x .done in cc
 
-      ended : (c : ℕ) → c ≡ endOf n (lent b bl fl) ws .code → TraceEnds (traceOn b n ws bl fl dn) c b′ bl′ fl′ (r .carried ∷ r .tally .at ∷ r .tally .told ∷ [])
+      ended : (c : ℕ) → c ≡ endOf n (lent b bl fl) ws .code → TraceEnds (traceOn b n ws bl fl dn) c b′ bl′ fl′ (r .carried ∷ r .tally .at ∷ r .tally .written ∷ [])
       unfolding traceOn
       ended c f = rw (← e, eq-eqb k 0 z) (record { code = f; book = x .book; blocks = x .blocks; figures = x .figures; done = x .done })
 
-      pub trace-all : r .carried ≡ length ws → TraceEnds (traceOn b n ws bl fl dn) 0 b′ bl′ fl′ (r .carried ∷ r .tally .at ∷ r .tally .told ∷ [])
+      pub trace-all : r .carried ≡ length ws → TraceEnds (traceOn b n ws bl fl dn) 0 b′ bl′ fl′ (r .carried ∷ r .tally .at ∷ r .tally .written ∷ [])
       trace-all h = ended 0 (rw (← came, eq-eqb (r .carried) (length ws) h))
 
-      pub trace-stopped : (r .carried ≡ length ws → ⊥) → TraceEnds (traceOn b n ws bl fl dn) 16 b′ bl′ fl′ (r .carried ∷ r .tally .at ∷ r .tally .told ∷ [])
+      pub trace-stopped : (r .carried ≡ length ws → ⊥) → TraceEnds (traceOn b n ws bl fl dn) 16 b′ bl′ fl′ (r .carried ∷ r .tally .at ∷ r .tally .written ∷ [])
       trace-stopped h = ended 16 (rw (← came, ne-eqb (r .carried) (length ws) h))

@@ -17,7 +17,7 @@ use Rattle.runs.specs.declared.Commit.the-variants.{Refused, Run, Nothing}
 use Rattle.direct.specs.declared.Grow.{Grow}
 use Rattle.direct.specs.declared.Grow.the-variants.{Yes, No}
 use Rattle.direct.specs.declared.Report.{Report}
-use Rattle.direct.specs.declared.Report.the-variants.{Told}
+use Rattle.direct.specs.declared.Report.the-variants.{Reported}
 use Rattle.arena.specs.Calls.{Committed, commitRefused, commitCall, Done, doneRefused, growCall, releaseCall, containsCall}
 use Rattle.arena.specs.Open.{opened}
 use Rattle.runs.specs.Answer.{commitAnswer, commitCode}
@@ -84,12 +84,12 @@ reportOn b = cond (eqb (metaFault b) 0) (reportOf (get b (arena size)) b) (Repor
 
 abbrev pub reportCode : Report → ℕ
 reportCode (Report.Refused k) = k
-reportCode (Told f) = 0
+reportCode (Reported f) = 0
 
 -- the figures as a list, and read from it
 abbrev pub figuresOut : Report → List ℕ → List ℕ
 figuresOut (Report.Refused k) old = old
-figuresOut (Told f) old = f .commits ∷ f .reuses ∷ f .abandoned ∷ f .held ∷ f .idle ∷ f .overlap ∷ []
+figuresOut (Reported f) old = f .commits ∷ f .reuses ∷ f .abandoned ∷ f .held ∷ f .idle ∷ f .overlap ∷ []
 
 abbrev pub figuresIn : List ℕ → Figures
 figuresIn fs = record { commits = getD fs 0 0; reuses = getD fs 1 0; abandoned = getD fs 2 0; held = getD fs 3 0; idle = getD fs 4 0; overlap = getD fs 5 0 }

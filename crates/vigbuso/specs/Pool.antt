@@ -8,16 +8,16 @@ use Rattle.classes.specs.Shape.{shapeOf, classCount}
 use Rattle.fields.specs.Field.{arena, size, get}
 use Rattle.fields.specs.Ranges.{metaFault}
 use Rattle.model.specs.Release.{ofKind}
-use Rattle.pool.specs.Pool.{Wish, hostIn, refused}
+use Rattle.pool.specs.Pool.{PoolRequest, hostIn, refused}
 pub use Rattle.poolcalls.specs.Calls.{BlockEnds, FreeEnds}
-use Rattle.poolcalls.specs.Calls.{Said, said, wishOn, grantedIn, stockedIn}
+use Rattle.poolcalls.specs.Calls.{PoolReply, poolReply, requestOn, grantedIn, stockedIn}
 use Rattle.trace.specs.Words.{ownerAt, known}
 use Rattle.vigbuso.specs.Faults.{classFault, admits}
 
-unfoldable pub poolOn : List ℕ → ℕ → Wish → Said
+unfoldable pub poolOn : List ℕ → ℕ → PoolRequest → PoolReply
 poolOn b c x =
     cond (eqb (classFault b (hostIn x) classCount c) 0)
-    (wishOn (get b (arena size)) b c x) (said (refused (classFault b (hostIn x) classCount c)) b)
+    (requestOn (get b (arena size)) b c x) (poolReply (refused (classFault b (hostIn x) classCount c)) b)
 
 -- the class that has the block's page, by OWNER; `classCount` for none, and on a book that 1 or 2 refuses
 unfoldable pub classOn : List ℕ → ℕ → ℕ

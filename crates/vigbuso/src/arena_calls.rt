@@ -157,7 +157,7 @@ pub extern "C" fn vigbuso_report(meta: &[u32], figures: &mut [u64; FIGURES]) -> 
 {
     match report_on(meta) {
         Report::Refused(k) => k,
-        Report::Told(f) => {
+        Report::Reported(f) => {
             *figures = [f.commits, f.reuses, f.abandoned, f.held, f.idle, f.overlap];
             0
         }

@@ -68,7 +68,7 @@ fn granted_on(meta: &[u32], class: u32, block: u64) -> bool
 {
     if is_admitted(meta, class) {
         let size = fields::arena::size(meta);
-        return stock::look::granted(meta, size, class, block);
+        return stock::query::granted(meta, size, class, block);
     }
     false
 }
@@ -87,7 +87,7 @@ pub extern "C" fn vigbuso_stocked(meta: &[u32], class: u32) -> u32
     ensures { λ r. ⌜ r ≡ stockedOn (now (meta .entry)) class ⌝ }
 {
     if is_admitted(meta, class) {
-        return stock::look::stocked(meta, class);
+        return stock::query::stocked(meta, class);
     }
     0
 }

@@ -24,7 +24,7 @@ pub extern "C" fn vigbuso_trace(
     *done = [
         course.carried as u64,
         course.tally.at as u64,
-        course.tally.told as u64,
+        course.tally.written as u64,
     ];
     if course.carried == words.len() { 0 } else { 16 }
 }

@@ -1,9 +1,9 @@
 // The game of an asker against any placing.
 ghost use Rattle.demands.specs.Game.{ThreeYes};
-ghost use Rattle.witness.specs.Seen.{GameSeen};
+ghost use Rattle.witness.specs.Observed.{GameObserved};
 
 pub fn asker_wins(pages: u64, live: u64, moves: u64, wins: &mut u32) -> u32
-    ensures { λ r. ⌜ GameSeen pages live moves r (now (wins .entry)) (now (wins .exit)) ⌝ }
+    ensures { λ r. ⌜ GameObserved pages live moves r (now (wins .entry)) (now (wins .exit)) ⌝ }
 {
     vigbuso::asker::vigbuso_asker_wins(pages, live, moves, wins)
 }

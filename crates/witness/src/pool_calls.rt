@@ -1,38 +1,38 @@
 // One block out and back, and what a class's pool has.
-ghost use Rattle.witness.specs.Seen.{AllocSeen, FreeSeen, TrimSeen, GrantedSeen, StockedSeen, ClassSeen};
+ghost use Rattle.witness.specs.Observed.{AllocObserved, FreeObserved, TrimObserved, GrantedObserved, StockedObserved, ClassObserved};
 
 pub fn alloc(meta: &mut [u32], class: u32, host: u32, block: &mut u64) -> u32
-    ensures { λ r. ⌜ AllocSeen class host r (now (meta .entry)) (now (meta .exit)) (now (block .entry)) (now (block .exit)) ⌝ }
+    ensures { λ r. ⌜ AllocObserved class host r (now (meta .entry)) (now (meta .exit)) (now (block .entry)) (now (block .exit)) ⌝ }
 {
     vigbuso::pool_calls::vigbuso_alloc(meta, class, host, block)
 }
 
 pub fn free(meta: &mut [u32], class: u32, host: u32, block: u64) -> u32
-    ensures { λ r. ⌜ FreeSeen class host block r (now (meta .entry)) (now (meta .exit)) ⌝ }
+    ensures { λ r. ⌜ FreeObserved class host block r (now (meta .entry)) (now (meta .exit)) ⌝ }
 {
     vigbuso::pool_calls::vigbuso_free(meta, class, host, block)
 }
 
 pub fn trim(meta: &mut [u32], class: u32, host: u32, block: &mut u64) -> u32
-    ensures { λ r. ⌜ TrimSeen class host r (now (meta .entry)) (now (meta .exit)) (now (block .entry)) (now (block .exit)) ⌝ }
+    ensures { λ r. ⌜ TrimObserved class host r (now (meta .entry)) (now (meta .exit)) (now (block .entry)) (now (block .exit)) ⌝ }
 {
     vigbuso::pool_calls::vigbuso_trim(meta, class, host, block)
 }
 
 pub fn class_of(meta: &[u32], block: u64) -> u32
-    ensures { λ r. ⌜ ClassSeen (now (meta .entry)) block r ⌝ }
+    ensures { λ r. ⌜ ClassObserved (now (meta .entry)) block r ⌝ }
 {
     vigbuso::pool_calls::vigbuso_class_of(meta, block)
 }
 
 pub fn granted(meta: &[u32], class: u32, block: u64) -> u32
-    ensures { λ r. ⌜ GrantedSeen (now (meta .entry)) class block r ⌝ }
+    ensures { λ r. ⌜ GrantedObserved (now (meta .entry)) class block r ⌝ }
 {
     vigbuso::pool_calls::vigbuso_granted(meta, class, block)
 }
 
 pub fn stocked(meta: &[u32], class: u32) -> u32
-    ensures { λ r. ⌜ StockedSeen (now (meta .entry)) class r ⌝ }
+    ensures { λ r. ⌜ StockedObserved (now (meta .entry)) class r ⌝ }
 {
     vigbuso::pool_calls::vigbuso_stocked(meta, class)
 }

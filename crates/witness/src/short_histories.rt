@@ -1,9 +1,9 @@
 // All short histories of the direct calls on a small arena.
 ghost use Rattle.demands.specs.Listing.{OnePageTwoCalls};
-ghost use Rattle.witness.specs.Seen.{ListingSeen};
+ghost use Rattle.witness.specs.Observed.{ListingObserved};
 
 pub fn short_histories(pages: u64, calls: u64, list: &mut [u32], written: &mut u64) -> u32
-    ensures { λ r. ⌜ ListingSeen pages calls r (now (list .entry)) (now (list .exit)) (now (written .entry)) (now (written .exit)) ⌝ }
+    ensures { λ r. ⌜ ListingObserved pages calls r (now (list .entry)) (now (list .exit)) (now (written .entry)) (now (written .exit)) ⌝ }
 {
     vigbuso::short_histories::vigbuso_short_histories(pages, calls, list, written)
 }

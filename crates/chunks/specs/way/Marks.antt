@@ -1,6 +1,6 @@
 -- The blocks of a group release marked, each on the page that has its granule, and taken by the chunks' pages. Of a class whose runs are
 -- one page; m is how many words of marks a page has, gs the chunks.
---     pageReady           a chunk's page is a run of the class, and no mark of it is set
+--     pageClean           a chunk's page is a run of the class, and no mark of it is set
 --     ownCount, ownBook   marking in turn, up to the first word that is not out on its page or is marked: how many were, and the book then
 --     takePages           on the chunks' pages: the marked blocks' out bits cleared and the marks with them, a word at a time
 --     clearPages          the marks cleared, a word at a time
@@ -14,8 +14,8 @@ use Rattle.pages.specs.Runs.{whole}
 use Rattle.pages.specs.Stack.{pageAt}
 use Rattle.release.specs.way.Marks.{countBy, bookBy, noMarks, takeMarks}
 
-unfoldable pub pageReady : ℕ → List ℕ → ℕ → Shape → ℕ → ℕ → Bool
-pageReady n b c sh m g = whole n b sh c (pageOf g) && noMarks b (pageOf g) m
+unfoldable pub pageClean : ℕ → List ℕ → ℕ → Shape → ℕ → ℕ → Bool
+pageClean n b c sh m g = whole n b sh c (pageOf g) && noMarks b (pageOf g) m
 
 abbrev pub ownCount : List ℕ → Shape → List ℕ → ℕ
 ownCount = countBy pageAt

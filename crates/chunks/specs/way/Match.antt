@@ -38,7 +38,7 @@ inArena n w = ltb (pageAt w) n
 unfoldable pub arenaMatch : ℕ → List ℕ → List ℕ → Bool
 arenaMatch n ws gs = every (isPage n) gs && pagesMatch ws gs
 
-pub record MatchAsks (n : ℕ) (b gs : List ℕ) : Type 0 where
+pub record MatchPre (n : ℕ) (b gs : List ℕ) : Type 0 where
   pub few : n ≤ maxPages
   pub long : words n ≤ length b
   pub chunks : length gs ≤ chunksMax

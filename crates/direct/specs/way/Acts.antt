@@ -11,7 +11,7 @@ use Rattle.runs.specs.declared.Commit.the-variants.{Refused, Run, Nothing}
 use Rattle.direct.specs.declared.Grow.{Grow}
 use Rattle.direct.specs.declared.Grow.the-variants.{Yes, No}
 use Rattle.arena.specs.Owners.{ownerCode}
-use Rattle.arena.specs.Fair.{giveFair, growFair}
+use Rattle.arena.specs.Valid.{giveValid, growValid}
 use Rattle.arena.specs.Calls.{Committed, commitRefused, Done, doneRefused, given}
 use Rattle.runs.specs.way.Act.{growActs}
 use Rattle.direct.specs.Answer.{grownAs}
@@ -30,9 +30,9 @@ pub record Grows (r : Grow) (b : List ℕ) (o : Committed) : Type 0 where
   pub answer : r ≡ grownAs (o .code) (isSome (o .run))
   pub book : b ≡ o .book
 
-unfoldable pub fairGrow : ℕ → List ℕ → ℕ → ℕ → ℕ → Committed
-fairGrow n b h e m = cond (growFair n b h e m) (growActs n b h e m (ownerCode direct)) (commitRefused b 13)
+unfoldable pub validGrow : ℕ → List ℕ → ℕ → ℕ → ℕ → Committed
+validGrow n b h e m = cond (growValid n b h e m) (growActs n b h e m (ownerCode direct)) (commitRefused b 13)
 
 -- from number 13 on
 unfoldable pub heldRelease : ℕ → List ℕ → ℕ → ℕ → Done
-heldRelease n b q m = cond (not (giveFair n b m)) (doneRefused b 13) (record { code = 0; book = given b q m; yes = true })
+heldRelease n b q m = cond (not (giveValid n b m)) (doneRefused b 13) (record { code = 0; book = given b q m; yes = true })

@@ -6,7 +6,7 @@ use Rattle.fields.specs.Field.{words}
 use Rattle.pages.specs.Stack.{pageSlots}
 
 -- words x to y - 1 of the stack are there, and two blocks for each from a on
-pub record StretchAsks (b : List ℕ) (q x y a : ℕ) : Type 0 where
+pub record StretchPre (b : List ℕ) (q x y a : ℕ) : Type 0 where
   pub there : words (q + 1) ≤ length b
   pub begins : x ≤ y
   pub slots : 2 * y ≤ pageSlots

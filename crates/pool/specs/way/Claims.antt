@@ -18,12 +18,12 @@ use Rattle.model.specs.History.{events, heapAfter}
 use Rattle.model.specs.Entries.{OutIn}
 use Rattle.model.specs.Offered.{Spent}
 use Rattle.model.specs.Demands.{Disjoint}
-use Rattle.pool.specs.Pool.{PoolCall, Wish, PoolAnswer, to, alloc, free, trim, poolStep, refused, trimmed, noBlock, freed}
-use Rattle.pool.specs.Told.{poolEvents, poolAfter, heapCalls, toldOf, poolCallsOf, poolAnswersOf, poolRunsOf}
+use Rattle.pool.specs.Pool.{PoolCall, PoolRequest, PoolAnswer, to, alloc, free, trim, poolStep, refused, trimmed, noBlock, freed}
+use Rattle.pool.specs.Observed.{poolEvents, poolAfter, heapCalls, observedOf, poolCallsOf, poolAnswersOf, poolRunsOf}
 
 -- two grants not yet freed share a byte exactly when they are the same grant, and none has a byte of a page held by hand
 abbrev pub PoolDisjoint : ℕ → Rules → List PoolCall → Type 0
-PoolDisjoint size rules xs = Disjoint (toldOf (poolEvents size rules xs))
+PoolDisjoint size rules xs = Disjoint (observedOf (poolEvents size rules xs))
 
 -- the heap's part is what the heap's calls leave, and of these none that names a class is refused: all that is proved of their histories
 -- holds of it
@@ -31,17 +31,17 @@ pub record OnHeap (size : ℕ) (rules : Rules) (xs : List PoolCall) : Type 0 whe
   pub heap : poolAfter size rules xs .heap ≡ heapAfter size rules (heapCalls size rules xs)
   pub done : All (λ v. isSome (names (v .call)) ≡ true → isRefused (v .answer) ≡ false) (events size rules (heapCalls size rules xs))
 
--- what is answered to a wish
-abbrev pub answerTo : ℕ → Rules → List PoolCall → ℕ → Wish → PoolAnswer
+-- what is answered to a request
+abbrev pub answerTo : ℕ → Rules → List PoolCall → ℕ → PoolRequest → PoolAnswer
 answerTo size rules xs c x = poolStep size (poolAfter size rules xs) (to c x) .answer
 
 -- numbers 3 and 4; then a free is carried out exactly if its block is a grant of that class not yet freed, and else is number 9 or 10
 pub record Frees (size : ℕ) (rules : Rules) (xs : List PoolCall) (c h w : ℕ) : Type 0 where
   pub host : badHost h ≡ true → answerTo size rules xs c (free h w) ≡ refused 3
   pub class : badHost h ≡ false → ltb c classCount ≡ false → answerTo size rules xs c (free h w) ≡ refused 4
-  pub done : badHost h ≡ false → ltb c classCount ≡ true → (answerTo size rules xs c (free h w) ≡ freed) ↔ OutIn (toldOf (poolEvents size rules xs)) c w
+  pub done : badHost h ≡ false → ltb c classCount ≡ true → (answerTo size rules xs c (free h w) ≡ freed) ↔ OutIn (observedOf (poolEvents size rules xs)) c w
   pub kind : badHost h ≡ false → ltb c classCount ≡ true → ofKind (shapeOf c .kind) w ≡ false → answerTo size rules xs c (free h w) ≡ refused 9
-  pub stale : badHost h ≡ false → ltb c classCount ≡ true → ofKind (shapeOf c .kind) w ≡ true → (OutIn (toldOf (poolEvents size rules xs)) c w → ⊥)
+  pub stale : badHost h ≡ false → ltb c classCount ≡ true → ofKind (shapeOf c .kind) w ≡ true → (OutIn (observedOf (poolEvents size rules xs)) c w → ⊥)
       → answerTo size rules xs c (free h w) ≡ refused 10
 
 -- an alloc answers none exactly if the class has no block in stock, every block of every run of it is out by the heap's calls, and the arena
@@ -59,7 +59,7 @@ pub record Trims (size : ℕ) (rules : Rules) (xs : List PoolCall) (c h : ℕ) :
       → (answerTo size rules xs c (trim h) ≡ trimmed w) × (poolStep size (poolAfter size rules xs) (to c (trim h)) .pool .stock c ≡ ws)
 
 -- a refused call changes nothing, and makes no call of the heap; its number is 3, 4, 9 or 10
-pub record Unchanged (size : ℕ) (rules : Rules) (xs : List PoolCall) (c : ℕ) (x : Wish) : Type 0 where
+pub record Unchanged (size : ℕ) (rules : Rules) (xs : List PoolCall) (c : ℕ) (x : PoolRequest) : Type 0 where
   pub same : (n : ℕ) → answerTo size rules xs c x ≡ refused n
       → (poolStep size (poolAfter size rules xs) (to c x) .pool ≡ poolAfter size rules xs) × (poolStep size (poolAfter size rules xs) (to c x) .calls ≡ [])
   pub low : (n : ℕ) → answerTo size rules xs c x ≡ refused n → elem n (3 ∷ 4 ∷ 9 ∷ 10 ∷ []) ≡ true
@@ -67,8 +67,8 @@ pub record Unchanged (size : ℕ) (rules : Rules) (xs : List PoolCall) (c : ℕ)
 -- a block out of the heap is granted or in stock, and each of these once
 pub record Conserved (size : ℕ) (rules : Rules) (xs : List PoolCall) : Type 0 where
   pub out : (c w : ℕ) → (outHere (shapeOf c) (poolAfter size rules xs .heap .classes c) w ≡ true)
-      ↔ (OutIn (toldOf (poolEvents size rules xs)) c w ⊎ (elem w (poolAfter size rules xs .stock c) ≡ true))
-  pub either : (c w : ℕ) → OutIn (toldOf (poolEvents size rules xs)) c w → elem w (poolAfter size rules xs .stock c) ≡ false
+      ↔ (OutIn (observedOf (poolEvents size rules xs)) c w ⊎ (elem w (poolAfter size rules xs .stock c) ≡ true))
+  pub either : (c w : ℕ) → OutIn (observedOf (poolEvents size rules xs)) c w → elem w (poolAfter size rules xs .stock c) ≡ false
   pub once : (c : ℕ) → distinct (poolAfter size rules xs .stock c) ≡ true
   -- as many trims as there are blocks in stock, or more, leave none there
   pub trims : (c h k : ℕ) → badHost h ≡ false → ltb c classCount ≡ true → length (poolAfter size rules xs .stock c) ≤ k

@@ -11,7 +11,7 @@ use Rattle.refinement.specs.way.Represents.{Represents}
 use Rattle.pool.specs.Stock.{stockRoom}
 use Rattle.pool.specs.Pool.{Pool, Done}
 use Rattle.poolcalls.specs.Stock.{countIn, entryIn, placeIn, stockIn}
-use Rattle.poolcalls.specs.Calls.{Said}
+use Rattle.poolcalls.specs.Calls.{PoolReply}
 
 pub record StockRep (n : ℕ) (b : List ℕ) (c : ℕ) (st : List ℕ) : Type 0 where
   pub same : stockIn b c ≡ st
@@ -23,6 +23,6 @@ pub record PoolRep (n : ℕ) (b : List ℕ) (P : Pool) : Type 0 where
   pub heap : Represents n b (P .heap)
   pub stocks : (c : ℕ) → ltb c 76 ≡ true → StockRep n b c (P .stock c)
 
-pub record PoolAgrees (n : ℕ) (s : Said) (d : Done) : Type 0 where
+pub record PoolAgrees (n : ℕ) (s : PoolReply) (d : Done) : Type 0 where
   pub answer : s .answer ≡ d .answer
   pub pool : PoolRep n (s .book) (d .pool)

@@ -22,8 +22,8 @@ use Rattle.model.specs.Heap.{Heap}
 use Rattle.arena.specs.way.Represents.{ArenaRep}
 use Rattle.words.specs.Host.{digit}
 use Rattle.pages.specs.Runs.{whole}
-use Rattle.pages.specs.Stack.{marked}
-use Rattle.pages.specs.Fair.{limitsAt}
+use Rattle.pages.specs.Stack.{outBit}
+use Rattle.pages.specs.Valid.{limitsAt}
 use Rattle.pages.specs.declared.Park.{Park}
 use Rattle.pages.specs.declared.Park.the-variants.{Empty}
 use Rattle.pages.specs.Links.{other}
@@ -46,7 +46,7 @@ pub record Holds (n : ℕ) (sh : Shape) (b : List ℕ) (c l q : ℕ) (xs : List 
   pub ready : get b (page carved q) ≡ k
   pub clean : get b (page virgin q) ≡ digit v
   pub within : k ≤ sh .capacity
-  pub outs : (i : ℕ) → marked b sh q i + count i xs ≡ digit (ltb i k)
+  pub outs : (i : ℕ) → outBit b sh q i + count i xs ≡ digit (ltb i k)
   pub unmarked : (j : ℕ) → j < outWords sh → get b (mark q j) ≡ 0
 
 pub record PageRep (n : ℕ) (sh : Shape) (b : List ℕ) (c l : ℕ) (p : Page) : Type 0 where
@@ -57,7 +57,7 @@ pub record PageRep (n : ℕ) (sh : Shape) (b : List ℕ) (c l : ℕ) (p : Page) 
 -- a parked page has no block out
 pub record Parked (n : ℕ) (sh : Shape) (b : List ℕ) (c : ℕ) (p : Page) : Type 0 where
   pub rep : PageRep n sh b c 0 p
-  pub idle : (i : ℕ) → marked b sh (p .first) i ≡ 0
+  pub idle : (i : ℕ) → outBit b sh (p .first) i ≡ 0
 
 abbrev pub firsts : List Page → List ℕ
 firsts ps = map (λ p. p .first) ps

@@ -15,7 +15,7 @@ use lib.ListN.{length}
 use Rattle.facts.specs.Lists.{every, below}
 use Rattle.classes.specs.declared.Shape.{Shape}
 use Rattle.fields.specs.Field.{bits, out, mark, read, place, get, put}
-use Rattle.fields.specs.way.Mark.{outsAt, flipWord}
+use Rattle.fields.specs.way.OutBits.{outsAt, flipWord}
 use Rattle.pages.specs.Carve.{outWords}
 use Rattle.model.specs.Release.{ofKind}
 use Rattle.pages.specs.Stack.{indexOf, isBlock}

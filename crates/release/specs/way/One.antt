@@ -11,19 +11,19 @@ use Rattle.fields.specs.Ranges.{maxPages}
 use Rattle.pages.specs.Stack.{back, indexOf, isBlock, pageSlots}
 use Rattle.model.specs.Release.{ofKind}
 use Rattle.calls.specs.Out.{startOf, inRunOf}
-use Rattle.calls.specs.Release.{releaseFair, relisted}
-use Rattle.release.specs.way.Asks.{ClassAsks}
+use Rattle.calls.specs.Release.{releaseValid, relisted}
+use Rattle.release.specs.way.Pre.{ClassPre}
 
 -- block i of the run at q is out, and its word of marks is 0
 abbrev pub readyAt : List ℕ → ℕ → ℕ → Bool
 readyAt b q i = eqb (get b (out q i)) 1 && eqb (get b (mark q (i / 32))) 0
 
 -- 13's last test passes for one block of the run at q, and others stay out
-unfoldable pub staysFair : ℕ → List ℕ → ℕ → Shape → ℕ → Bool
-staysFair n b c sh q = releaseFair n b c sh 1 q && not (eqb (get b (page free q) + 1) (get b (page carved q)))
+unfoldable pub staysValid : ℕ → List ℕ → ℕ → Shape → ℕ → Bool
+staysValid n b c sh q = releaseValid n b c sh 1 q && not (eqb (get b (page free q) + 1) (get b (page carved q)))
 
 abbrev pub backReady : ℕ → List ℕ → ℕ → Shape → ℕ → ℕ → Bool
-backReady n b c sh q i = readyAt b q i && staysFair n b c sh q
+backReady n b c sh q i = readyAt b q i && staysValid n b c sh q
 
 -- the word is such a block of the run at q; of the class's run that has its granule
 abbrev pub oneIn : ℕ → List ℕ → ℕ → Shape → ℕ → ℕ → Bool
@@ -36,7 +36,7 @@ oneReady n b c sh w = inRunOf n b sh c w && oneIn n b c sh (startOf b w) w
 abbrev pub backBook : List ℕ → ℕ → ℕ → ℕ → List ℕ
 backBook b c q i = relisted (back b q (i ∷ [])) c q
 
-pub record PutAsks (b : List ℕ) (c q i : ℕ) : Type 0 where
+pub record PutPre (b : List ℕ) (c q i : ℕ) : Type 0 where
   pub known : c < 76
   pub below : q < maxPages
   pub there : words (q + 1) ≤ length b
@@ -45,8 +45,8 @@ pub record PutAsks (b : List ℕ) (c q i : ℕ) : Type 0 where
   pub room : get b (page free q) < pageSlots
   pub out : get b (out q i) ≡ 1
 
-pub record BackAsks (n : ℕ) (b : List ℕ) (c : ℕ) (sh : Shape) (q i : ℕ) : Type 0 where
-  pub class : ClassAsks n b c sh
+pub record BackPre (n : ℕ) (b : List ℕ) (c : ℕ) (sh : Shape) (q i : ℕ) : Type 0 where
+  pub class : ClassPre n b c sh
   pub inside : q + sh .pages ≤ n
   pub bit : i < pageSlots
 

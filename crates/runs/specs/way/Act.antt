@@ -16,13 +16,13 @@ use Rattle.model.specs.declared.Hole.{Hole}
 use Rattle.runs.specs.declared.Arena.{Arena}
 use Rattle.runs.specs.declared.record.Gain.{Gain}
 use Rattle.runs.specs.way.Change.{gainedBy}
-use Rattle.runs.specs.declared.Plan.{Plan}
+use Rattle.runs.specs.declared.Choice.{Choice}
 use Rattle.runs.specs.declared.holes.Edges.{Edges}
-use Rattle.runs.specs.declared.holes.Beside.{Beside}
+use Rattle.runs.specs.declared.holes.Neighbours.{Neighbours}
 use Rattle.arena.specs.Load.{loadHole, loadHoles}
 use Rattle.arena.specs.Store.{storeHole}
 use Rattle.runs.specs.way.Record.{recordOf, storeRecord, advanced, counted, abandoning}
-use Rattle.arena.specs.Fair.{recordFair}
+use Rattle.arena.specs.Valid.{recordValid}
 use Rattle.arena.specs.Owners.{own}
 use Rattle.runs.specs.way.Plan.{planOf, neighboursOf}
 use Rattle.arena.specs.Calls.{Committed, commitRefused}
@@ -61,7 +61,7 @@ pub record Places (b : List ℕ) (a : Arena) (m q c d : ℕ) (x : List ℕ) (g :
 abbrev pub edges : ℕ → ℕ → Edges
 edges m q = record { first = q; end = q + m }
 
-unfoldable pub touching : List ℕ → Arena → ℕ → ℕ → Beside
+unfoldable pub touching : List ℕ → Arena → ℕ → ℕ → Neighbours
 touching b a m q = neighboursOf (loadHoles b 0 (a .count)) (edges m q)
 
 unfoldable pub giveWords : List ℕ → Arena → ℕ → ℕ → List ℕ
@@ -125,14 +125,14 @@ commitPlanned n b a code m h w d =
     let s = nextState (a .state) h in
     cond (eqb s 2) (endNone b (withState s a)) (commitDrawn n b (withState s a) code m h w d)
 
-unfoldable pub planned : List ℕ → ℕ → Plan
+unfoldable pub planned : List ℕ → ℕ → Choice
 planned b m = planOf (loadHoles b 0 (recordOf b .count)) (recordOf b .total) (recordOf b .frontier) m
 
 unfoldable pub commitRead : ℕ → List ℕ → ℕ → ℕ → ℕ → ℕ → Committed
-commitRead n b h m w d = cond (planned b m .fair) (commitPlanned n b (recordOf b) (planned b m .code) m h w d) (commitRefused b 13)
+commitRead n b h m w d = cond (planned b m .valid) (commitPlanned n b (recordOf b) (planned b m .code) m h w d) (commitRefused b 13)
 
 unfoldable pub commitActs : ℕ → List ℕ → ℕ → ℕ → ℕ → Committed
-commitActs n b h m w = cond (recordFair n b) (commitRead n b h m w (get b (arena held))) (commitRefused b 13)
+commitActs n b h m w = cond (recordValid n b) (commitRead n b h m w (get b (arena held))) (commitRefused b 13)
 
 -- ---- the other steps
 unfoldable pub givenWith : List ℕ → Arena → ℕ → ℕ → ℕ → List ℕ

@@ -6,14 +6,14 @@ use mathlib.Core.Path.{_≡_}
 use lib.Dec.{eqb}
 use Rattle.facts.specs.Lists.{isSome}
 use Rattle.words.specs.Host.{hostMax}
-use Rattle.arena.specs.Fair.{recordFair}
+use Rattle.arena.specs.Valid.{recordValid}
 use Rattle.arena.specs.Calls.{Committed, commitFor}
-use Rattle.runs.specs.declared.Plan.{Plan}
+use Rattle.runs.specs.declared.Choice.{Choice}
 use Rattle.runs.specs.way.Plan.{planAs}
 use Rattle.runs.specs.way.Act.{planned}
 
-unfoldable pub found : ℕ → List ℕ → ℕ → Plan
-found n b m = cond (recordFair n b) (planned b m) (planAs false 0)
+unfoldable pub found : ℕ → List ℕ → ℕ → Choice
+found n b m = cond (recordValid n b) (planned b m) (planAs false 0)
 
 abbrev pub hasRun : Committed → Bool
 hasRun o = eqb (o .code) 0 && isSome (o .run)

@@ -1,7 +1,7 @@
 -- What the pool's functions come to, as numbers.
---     Gave       a release of one block answered r
---     Brings     of a take's blocks the last was answered, or none, and the others are the stock
---     Kept       a free that its stock has room for, whatever the host word
+--     ReleasedOne     a release of one block answered r
+--     Brings          of a take's blocks the last was answered, or none, and the others are the stock
+--     Kept            a free that its stock has room for, whatever the host word
 use Prim.Native.Nat.{ℕ, _^_}
 use mathlib.Core.Bool.{Bool, cond, not, _&&_}
 use mathlib.Core.List.{List}
@@ -9,13 +9,13 @@ use mathlib.Core.Path.{_≡_}
 use lib.Dec.{ltb, leb}
 use Rattle.calls.specs.Release.{Released}
 use Rattle.pool.specs.Stock.{stockMost}
-use Rattle.poolcalls.specs.Calls.{Said, codeOf, blockOut, freeOn, FreeEnds}
+use Rattle.poolcalls.specs.Calls.{PoolReply, codeOf, blockOut, freeOn, FreeEnds}
 
-pub record Gave (r : ℕ) (b : List ℕ) (z : Released) : Type 0 where
+pub record ReleasedOne (r : ℕ) (b : List ℕ) (z : Released) : Type 0 where
   pub code : r ≡ z .code
   pub book : b ≡ z .book
 
-pub record Brings (r : ℕ) (b : List ℕ) (s : Said) : Type 0 where
+pub record Brings (r : ℕ) (b : List ℕ) (s : PoolReply) : Type 0 where
   pub code : codeOf (s .answer) ≡ 0
   pub block : (old : ℕ) → r ≡ blockOut (s .answer) old
   pub book : b ≡ s .book

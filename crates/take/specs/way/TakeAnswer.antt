@@ -18,7 +18,7 @@ use Rattle.take.specs.declared.take_plan.Plan.{Plan}
 use Rattle.take.specs.declared.take_plan.Plan.the-variants.{Refused, Nothing, Fill}
 use Rattle.calls.specs.Take.{Took, tookNone, filled, onRun, takeNew, takeBlocks}
 use Rattle.take.specs.Answer.{answerOf}
-use Rattle.take.specs.way.TakePlan.{TakeAsks, walksFrom, fills, readied, FirstAsks, TakeNewAsks}
+use Rattle.take.specs.way.TakePlan.{TakePre, walksFrom, fills, readied, FirstPre, TakeNewPre}
 
 -- it answered r, and left the book b and the list l
 pub record Takes (r : Take) (b l : List ℕ) (t : Took) : Type 0 where
@@ -37,7 +37,7 @@ pub record TakesInto (r : ℕ) (b l : List ℕ) (m m′ v v′ : ℕ) (t : Took)
 -- the take t is a fill from the partial list of b: of m blocks, all virgin or not
 pub record Serves (m : ℕ) (v : Bool) (b : List ℕ) (c : ℕ) (sh : Shape) (t : List ℕ → Took) : Type 0 where
   pub pages : ℕ
-  pub asks : TakeAsks pages b c sh
+  pub pre : TakePre pages b c sh
   pub walks : walksFrom pages b c sh ≡ true
   pub count : m ≡ length (fills b c sh .blocks)
   pub virgin : v ≡ fills b c sh .virgin
@@ -52,8 +52,8 @@ Readies (Fill m v) b c sh t = Serves m v b c sh t
 -- what a take on the book b will do, whatever the host answers and whatever list is lent
 unfoldable pub Plans : Plan → ℕ → List ℕ → ℕ → Shape → Type 0
 Plans (Refused k) n b c sh = (k ≡ 13) × ((h : ℕ) (l : List ℕ) → takeBlocks n b c sh h l ≡ tookNone b l 13)
-Plans Nothing n b c sh = TakeNewAsks n b c sh × ((h : ℕ) (l : List ℕ) → takeBlocks n b c sh h l ≡ takeNew n b c sh h l)
-Plans (Fill m v) n b c sh = FirstAsks b c × ((h : ℕ) → Serves m v (readied b c) c sh (takeBlocks n b c sh h))
+Plans Nothing n b c sh = TakeNewPre n b c sh × ((h : ℕ) (l : List ℕ) → takeBlocks n b c sh h l ≡ takeNew n b c sh h l)
+Plans (Fill m v) n b c sh = FirstPre b c × ((h : ℕ) → Serves m v (readied b c) c sh (takeBlocks n b c sh h))
 
 -- how many blocks it answers, all being granted
 abbrev pub Counts : ℕ → ℕ → List ℕ → ℕ → Shape → Type 0

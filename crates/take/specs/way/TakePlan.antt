@@ -1,5 +1,5 @@
 -- What a take's plan and its fill ask of the words, and what a plan answers.
---     TakeAsks     a book of n pages, its frontier in range, and a class with its shape
+--     TakePre      a book of n pages, its frontier in range, and a class with its shape
 --     share        the blocks that the walk finds on the page with a code, 0 where a test fails
 --     Foretold     the plan of one source: a refusal where a test fails, else what the fill will yield
 use Prim.Native.Nat.{ℕ, suc, _+_, _-_, _<_, _≤_}
@@ -14,26 +14,26 @@ use Rattle.fields.specs.Field.{arena, class, page, frontier, partial, empty, ow
 use Rattle.fields.specs.Ranges.{maxPages}
 use Rattle.model.specs.Page.{wordOf}
 use Rattle.pages.specs.Stack.{latest, draw, spliced, pageSlots}
-use Rattle.pages.specs.Links.{top, wake}
+use Rattle.pages.specs.Links.{top, unparkRun}
 use Rattle.pages.specs.declared.Park.{Park}
 use Rattle.pages.specs.declared.Park.the-variants.{Empty, Cold}
-use Rattle.pages.specs.way.Asks.{RowAsks, WakeAsks, DrawAsks}
+use Rattle.pages.specs.way.Pre.{RowPre, UnparkRunPre, DrawPre}
 use Rattle.take.specs.declared.take_plan.Plan.{Plan}
 use Rattle.take.specs.declared.take_plan.Plan.the-variants.{Refused, Fill}
 use Rattle.calls.specs.Take.{sound, walk, Filled, unlistSpent, fillFrom}
 
-pub record TakeAsks (n : ℕ) (b : List ℕ) (c : ℕ) (sh : Shape) : Type 0 where
+pub record TakePre (n : ℕ) (b : List ℕ) (c : ℕ) (sh : Shape) : Type 0 where
   pub known : c < 76
   pub shape : Sound sh
   pub few : n ≤ maxPages
   pub long : words n ≤ length b
   pub bound : get b (arena frontier) ≤ n
 
-pub record TopsAsks (b : List ℕ) (q t : ℕ) : Type 0 where
+pub record TopEntriesPre (b : List ℕ) (q t : ℕ) : Type 0 where
   pub there : words (q + 1) ≤ length b
   pub slots : t ≤ pageSlots
 
-pub record SupplyAsks (b : List ℕ) (sh : Shape) (q : ℕ) : Type 0 where
+pub record SupplyPre (b : List ℕ) (sh : Shape) (q : ℕ) : Type 0 where
   pub there : words (q + 1) ≤ length b
   pub some : get b (page free q) ≤ pageSlots
   pub carved : get b (page carved q) ≤ sh .capacity
@@ -55,8 +55,8 @@ abbrev pub Foretold : Plan → Bool → Filled → Type 0
 Foretold p ok f = p ≡ cond ok (Fill (length (f .blocks)) (f .virgin)) (Refused 13)
 
 -- ---- a store: the class has no partial page, and the store has one
-pub record ParkedAsks (n : ℕ) (b : List ℕ) (c : ℕ) (sh : Shape) (k : Park) : Type 0 where
-  pub asks : TakeAsks n b c sh
+pub record ParkedPre (n : ℕ) (b : List ℕ) (c : ℕ) (sh : Shape) (k : Park) : Type 0 where
+  pub pre : TakePre n b c sh
   pub alone : get b (class partial c) ≡ 0
   pub some : 0 < get b (class (top k) c)
 
@@ -65,52 +65,52 @@ abbrev pub firstStore : List ℕ → ℕ → Park
 firstStore b c = cond (eqb (get b (class empty c)) 0) Cold Empty
 
 -- its newest page heads the partial list
-abbrev pub woken : List ℕ → ℕ → Park → List ℕ
-woken b c k = wake b c k (get b (class (top k) c) - 1)
+abbrev pub unparked : List ℕ → ℕ → Park → List ℕ
+unparked b c k = unparkRun b c k (get b (class (top k) c) - 1)
 
 -- a parked page does, where there is no partial page
 unfoldable pub readied : List ℕ → ℕ → List ℕ
-readied b c = cond (eqb (get b (class partial c)) 0) (woken b c (firstStore b c)) b
+readied b c = cond (eqb (get b (class partial c)) 0) (unparked b c (firstStore b c)) b
 
-pub record FirstAsks (b : List ℕ) (c : ℕ) : Type 0 where
-  pub row : RowAsks b c
+pub record FirstPre (b : List ℕ) (c : ℕ) : Type 0 where
+  pub row : RowPre b c
   pub some : get b (class partial c) ≡ 0 → 0 < get b (class (top (firstStore b c)) c)
-  pub wakes : get b (class partial c) ≡ 0 → WakeAsks b c (firstStore b c) (get b (class (top (firstStore b c)) c) - 1)
+  pub unparks : get b (class partial c) ≡ 0 → UnparkRunPre b c (firstStore b c) (get b (class (top (firstStore b c)) c) - 1)
 
 -- ---- a run that the arena gave, where the class has no page
-pub record TakeRunAsks (b : List ℕ) (c : ℕ) (sh : Shape) (q : ℕ) : Type 0 where
+pub record TakeRunPre (b : List ℕ) (c : ℕ) (sh : Shape) (q : ℕ) : Type 0 where
   pub pages : ℕ
-  pub asks : TakeAsks pages b c sh
+  pub pre : TakePre pages b c sh
   pub alone : get b (class partial c) ≡ 0
   pub ends : q + sh .pages ≤ pages
   pub under : q + sh .pages ≤ get b (arena frontier)
   pub owners : (i : ℕ) → i < sh .pages → get b (page owner (q + i)) ≡ suc c
 
 -- a take from the arena, and from whatever source
-pub record TakeNewAsks (n : ℕ) (b : List ℕ) (c : ℕ) (sh : Shape) : Type 0 where
-  pub asks : TakeAsks n b c sh
+pub record TakeNewPre (n : ℕ) (b : List ℕ) (c : ℕ) (sh : Shape) : Type 0 where
+  pub pre : TakePre n b c sh
   pub alone : get b (class partial c) ≡ 0
 
-pub record SourceAsks (n : ℕ) (b : List ℕ) (c : ℕ) (sh : Shape) : Type 0 where
+pub record SourcePre (n : ℕ) (b : List ℕ) (c : ℕ) (sh : Shape) : Type 0 where
   pub known : c < 76
   pub shape : Sound sh
   pub few : n ≤ maxPages
   pub long : words n ≤ length b
 
-pub record BlocksAsks (n : ℕ) (b : List ℕ) (c : ℕ) (sh : Shape) (l : List ℕ) : Type 0 where
-  pub source : SourceAsks n b c sh
+pub record BlocksPre (n : ℕ) (b : List ℕ) (c : ℕ) (sh : Shape) (l : List ℕ) : Type 0 where
+  pub source : SourcePre n b c sh
   pub places : sh .batch ≤ length l
 
-pub record CallAsks (n : ℕ) (b : List ℕ) (c : ℕ) : Type 0 where
+pub record CallPre (n : ℕ) (b : List ℕ) (c : ℕ) : Type 0 where
   pub known : c < 76
   pub few : n ≤ maxPages
   pub long : words n ≤ length b
 
 -- ---- the fill: one turn takes up to m blocks of the head page, to the places below `at`
-pub record TurnAsks (b : List ℕ) (c : ℕ) (sh : Shape) (l : List ℕ) (at m : ℕ) : Type 0 where
+pub record TurnPre (b : List ℕ) (c : ℕ) (sh : Shape) (l : List ℕ) (at m : ℕ) : Type 0 where
   pub known : c < 76
   pub some : 0 < get b (class partial c)
-  pub draws : DrawAsks b sh (get b (class partial c) - 1) l at m
+  pub draws : DrawPre b sh (get b (class partial c) - 1) l at m
   pub behind : words (get b (page next (get b (class partial c) - 1))) ≤ length b
   pub before : words (get b (page prev (get b (class partial c) - 1))) ≤ length b
 
@@ -121,9 +121,9 @@ pub record GaveTurn (r : ℕ) (b′ l′ b : List ℕ) (c : ℕ) (sh : Shape) (l
   pub list : l′ ≡ spliced l (at - length (latest b sh (get b (class partial c) - 1) m)) (map (wordOf sh (get b (class partial c) - 1)) (latest b sh (get b (class partial c) - 1) m))
 
 -- the walk passes, whatever the arena's length, and `at` is what the fill yields
-pub record FillAsks (b : List ℕ) (c : ℕ) (sh : Shape) (l : List ℕ) (at : ℕ) : Type 0 where
+pub record FillPre (b : List ℕ) (c : ℕ) (sh : Shape) (l : List ℕ) (at : ℕ) : Type 0 where
   pub pages : ℕ
-  pub asks : TakeAsks pages b c sh
+  pub pre : TakePre pages b c sh
   pub walks : walksFrom pages b c sh ≡ true
   pub count : at ≡ length (fills b c sh .blocks)
   pub places : at ≤ length l

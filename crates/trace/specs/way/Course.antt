@@ -15,9 +15,9 @@ pub record Coursed (r : Course) (n : ℕ) (x y : Lent) (ws : List ℕ) : Type 0 
   pub carried : r .carried ≡ carried n (roomOf (x .blocks) (x .figures)) (begins (x .book)) ws
   pub goes : goingOf y (r .tally) ≡ goes n (begins (x .book)) (ListN.take (r .carried) ws)
   pub blocks : drop (r .tally .at) (y .blocks) ≡ drop (r .tally .at) (x .blocks)
-  pub figures : drop (r .tally .told) (y .figures) ≡ drop (r .tally .told) (x .figures)
+  pub figures : drop (r .tally .written) (y .figures) ≡ drop (r .tally .written) (x .figures)
   pub handed : r .tally .at ≤ length (y .blocks)
-  pub written : r .tally .told ≤ length (y .figures)
+  pub written : r .tally .written ≤ length (y .figures)
 
 -- what the words carried out come to, from x as it was lent
 abbrev pub endOf : ℕ → Lent → List ℕ → Traced
@@ -29,4 +29,4 @@ pub record Ran (r : Course) (n : ℕ) (x y : Lent) (ws : List ℕ) : Type 0 wher
   pub book : y .book ≡ endOf n x ws .book
   pub blocks : y .blocks ≡ endOf n x ws .blocks
   pub figures : y .figures ≡ endOf n x ws .figures
-  pub done : r .carried ∷ r .tally .at ∷ r .tally .told ∷ [] ≡ endOf n x ws .done
+  pub done : r .carried ∷ r .tally .at ∷ r .tally .written ∷ [] ≡ endOf n x ws .done

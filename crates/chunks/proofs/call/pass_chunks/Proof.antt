@@ -1,5 +1,5 @@
-use Rattle.chunks.proofs.CallTests.{match-asks}
-use Rattle.chunks.proofs.CallPasses.{fair-next, clear-next, taken, unfair, mismatch}
+use Rattle.chunks.proofs.CallTests.{match-pre}
+use Rattle.chunks.proofs.CallPasses.{valid-next, clear-next, taken, invalid, mismatch}
 use borrow.Author.Needs.{needs}
 use Rattle.chunks.proofs.call.pass_chunks.Statement.{statement}
 use Rattle.chunks.proofs.call.pass_chunks.Tie as tie
@@ -11,7 +11,7 @@ take-blocks-requires c κs =
     let t = f .before .before in
     let m = t .before .before .before in
     let s = m .before .before .before .before .before in
-    clear-next _ _ _ _ _ _ (s .pre) _ _ (m .chunks-match .ensures) (t .if1 .taken) _ (f .chunks-fair .ensures) (u .if2 .taken)
+    clear-next _ _ _ _ _ _ (s .pre) _ _ (m .chunks-match .ensures) (t .if1 .taken) _ (f .chunks-valid .ensures) (u .if2 .taken)
 
 returns : tie.Need-returns
 returns c =
@@ -21,10 +21,10 @@ returns c =
     let t = f .before .before in
     let m = t .before .before .before in
     let s = m .before .before .before .before .before in
-    taken _ _ _ _ _ _ (s .pre) _ _ (m .chunks-match .ensures) (t .if1 .taken) _ (f .chunks-fair .ensures) (u .if2 .taken) _ (k .take-blocks .ensures)
+    taken _ _ _ _ _ _ (s .pre) _ _ (m .chunks-match .ensures) (t .if1 .taken) _ (f .chunks-valid .ensures) (u .if2 .taken) _ (k .take-blocks .ensures)
 
 pub pass-chunks-spec : {M : Type 1} → statement M
 pass-chunks-spec =
     tie.close
     (tie.spec
-    (λ c κs. search match-asks) (λ c κs. search fair-next) take-blocks-requires (λ c. search needs) returns (λ c. search needs) (λ c. search unfair) (λ c. search needs) (λ c. search mismatch))
+    (λ c κs. search match-pre) (λ c κs. search valid-next) take-blocks-requires (λ c. search needs) returns (λ c. search needs) (λ c. search invalid) (λ c. search needs) (λ c. search mismatch))

@@ -1,4 +1,4 @@
-use Rattle.chunks.proofs.CallSteps.{no-list, no-chunks, many-chunks, few-fates, wrong-blocks, wrong-chunks, listed-asks}
+use Rattle.chunks.proofs.CallSteps.{no-list, no-chunks, many-chunks, few-fates, wrong-blocks, wrong-chunks, listed-pre}
 use borrow.Author.Needs.{needs}
 use Rattle.chunks.proofs.call.release_chunks.Statement.{statement}
 use Rattle.chunks.proofs.call.release_chunks.Tie as tie
@@ -14,7 +14,7 @@ test-chunks-requires c κs =
     let x = y .before in
     let w = x .before in
     let s = w .before .before .before .before .before in
-    listed-asks _ _ _ _ 0 _ _ _ (w .if1 .left) (x .if2 .left) (y .if3 .left) (z .if4 .left) _ (k .all-of-kind .ensures) _ (r .if5 .taken) (m .all-of-kind2 .ensures) (t .if6 .taken) (s .pre)
+    listed-pre _ _ _ _ 0 _ _ _ (w .if1 .left) (x .if2 .left) (y .if3 .left) (z .if4 .left) _ (k .all-of-kind .ensures) _ (r .if5 .taken) (m .all-of-kind2 .ensures) (t .if6 .taken) (s .pre)
 
 returns-6 : tie.Need-returns-6
 returns-6 c =

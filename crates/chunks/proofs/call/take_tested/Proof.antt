@@ -1,4 +1,4 @@
-use Rattle.chunks.proofs.CallSteps.{fault-asks, faulted, pass-asks, passed-on}
+use Rattle.chunks.proofs.CallSteps.{fault-pre, faulted, pass-pre, passed-on}
 use borrow.Author.Needs.{needs}
 use Rattle.chunks.proofs.call.take_tested.Statement.{statement}
 use Rattle.chunks.proofs.call.take_tested.Tie as tie
@@ -7,4 +7,4 @@ pub take-tested-spec : {M : Type 1} → statement M
 take-tested-spec =
     tie.close
     (tie.spec
-    (λ c κs. search fault-asks) (λ c. search needs) (λ c. search faulted) (λ c κs. search pass-asks) (λ c. search needs) (λ c. search passed-on))
+    (λ c κs. search fault-pre) (λ c. search needs) (λ c. search faulted) (λ c κs. search pass-pre) (λ c. search needs) (λ c. search passed-on))

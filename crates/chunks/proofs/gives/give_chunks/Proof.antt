@@ -1,7 +1,7 @@
 use borrow.Author.Needs.{needs}
 use Prim.Native.Nat.{_-_}
 use lib.ListN.{length}
-use Rattle.chunks.proofs.GiveLaws.{Giving, giving-none, giving-asks, giving-more, giving-done}
+use Rattle.chunks.proofs.GiveLaws.{Giving, giving-none, giving-pre, giving-more, giving-done}
 use Rattle.chunks.proofs.gives.give_chunks.Statement.{statement}
 use Rattle.chunks.proofs.gives.give_chunks.Tie as tie
 
@@ -16,4 +16,4 @@ give-chunks-spec =
     tie.close
     (tie.spec
     Inv-loop μ-loop (λ c. search giving-none) (λ c. search needs) (λ c. search needs) (λ c. search needs) (λ c. search needs)
-    (λ c κs. search giving-asks) (λ c. search needs) (λ c. search needs) (λ c. search giving-more) (λ c. search needs) (λ c. search giving-done))
+    (λ c κs. search giving-pre) (λ c. search needs) (λ c. search needs) (λ c. search giving-more) (λ c. search needs) (λ c. search giving-done))

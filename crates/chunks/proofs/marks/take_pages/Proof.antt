@@ -1,7 +1,7 @@
 use Prim.Native.Nat.{_-_}
 use lib.ListN.{length}
 use Rattle.release.specs.way.Marks.{takeMarks}
-use Rattle.chunks.proofs.MarkSteps.{Sweeping, sweep-starts, sweep-fits, sweep-asks, sweep-goes-on, sweep-ends}
+use Rattle.chunks.proofs.MarkSteps.{Sweeping, sweep-starts, sweep-fits, sweep-pre, sweep-goes-on, sweep-ends}
 use borrow.Author.Needs.{needs}
 use Rattle.chunks.proofs.marks.take_pages.Statement.{statement}
 use Rattle.chunks.proofs.marks.take_pages.Tie as tie
@@ -16,4 +16,4 @@ pub take-pages-spec : {M : Type 1} → statement M
 take-pages-spec =
     tie.close
     (tie.spec
-    Inv-loop μ-loop (λ c. search sweep-starts) (λ c. search needs) (λ c. search needs) (λ c κs. search sweep-fits) (λ c κs. search sweep-asks) (λ c. search needs) (λ c. search needs) (λ c. search sweep-goes-on) (λ c. search needs) (λ c. search sweep-ends))
+    Inv-loop μ-loop (λ c. search sweep-starts) (λ c. search needs) (λ c. search needs) (λ c κs. search sweep-fits) (λ c κs. search sweep-pre) (λ c. search needs) (λ c. search needs) (λ c. search sweep-goes-on) (λ c. search needs) (λ c. search sweep-ends))

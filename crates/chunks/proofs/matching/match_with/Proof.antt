@@ -1,4 +1,4 @@
-use Rattle.chunks.proofs.MatchSteps.{past-arena, name-asks, count-asks, fit-asks, unname-asks, matched}
+use Rattle.chunks.proofs.MatchSteps.{past-arena, name-pre, count-pre, fit-pre, unname-pre, matched}
 use borrow.Author.Needs.{needs}
 use Rattle.chunks.proofs.matching.match_with.Statement.{statement}
 use Rattle.chunks.proofs.matching.match_with.Tie as tie
@@ -7,5 +7,5 @@ pub match-with-spec : {M : Type 1} → statement M
 match-with-spec =
     tie.close
     (tie.spec
-    (λ c κs. search needs) (λ c κs. search name-asks) (λ c κs. (search count-asks, search fit-asks)) (λ c κs. search unname-asks) (λ c. search needs)
+    (λ c κs. search needs) (λ c κs. search name-pre) (λ c κs. (search count-pre, search fit-pre)) (λ c κs. search unname-pre) (λ c. search needs)
     (λ c. search needs) (λ c. search needs) (λ c. search matched) (λ c. search past-arena))

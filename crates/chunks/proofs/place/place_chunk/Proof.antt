@@ -1,4 +1,4 @@
-use Rattle.chunks.proofs.PlaceSteps.{place-asks, fate-fits, goes-retired, head-asks, goes-partial}
+use Rattle.chunks.proofs.PlaceSteps.{place-pre, fate-fits, goes-retired, head-pre, goes-partial}
 use borrow.Author.Needs.{needs}
 use Rattle.chunks.proofs.place.place_chunk.Statement.{statement}
 use Rattle.chunks.proofs.place.place_chunk.Tie as tie
@@ -7,5 +7,5 @@ pub place-chunk-spec : {M : Type 1} → statement M
 place-chunk-spec =
     tie.close
     (tie.spec
-    (λ c κs. search needs) (λ c κs. search needs) (λ c κs. search needs) (λ c κs. search needs) (λ c κs. search place-asks) (λ c. search fate-fits)
-    (λ c. search needs) (λ c. search goes-retired) (λ c κs. search head-asks) (λ c. search needs) (λ c. search goes-partial))
+    (λ c κs. search needs) (λ c κs. search needs) (λ c κs. search needs) (λ c κs. search needs) (λ c κs. search place-pre) (λ c. search fate-fits)
+    (λ c. search needs) (λ c. search goes-retired) (λ c κs. search head-pre) (λ c. search needs) (λ c. search goes-partial))

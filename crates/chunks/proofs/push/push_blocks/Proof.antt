@@ -1,6 +1,6 @@
 use borrow.Author.Needs.{needs}
 use Rattle.chunks.proofs.PushLaws.{Pushing, pushing-none, pushing-done}
-use Rattle.chunks.proofs.PushRuns.{first-long, with-asks, with-more, with-less}
+use Rattle.chunks.proofs.PushRuns.{first-long, with-pre, with-more, with-less}
 use Rattle.chunks.proofs.push.push_blocks.Statement.{statement}
 use Rattle.chunks.proofs.push.push_blocks.Tie as tie
 
@@ -14,4 +14,4 @@ pub push-blocks-spec : {M : Type 1} → statement M
 push-blocks-spec =
     tie.close
     (tie.spec
-    Inv-loop μ-loop (λ c. search pushing-none) (λ c. search (needs, first-long)) (λ c κs. search with-asks) (λ c. search with-less) (λ c. search with-more) (λ c. search needs) (λ c. search pushing-done))
+    Inv-loop μ-loop (λ c. search pushing-none) (λ c. search (needs, first-long)) (λ c κs. search with-pre) (λ c. search with-less) (λ c. search with-more) (λ c. search needs) (λ c. search pushing-done))

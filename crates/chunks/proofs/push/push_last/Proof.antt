@@ -1,4 +1,4 @@
-use Rattle.chunks.proofs.PushRuns.{all-reach, last-page, last-alone, alone-done, last-asks, last-done}
+use Rattle.chunks.proofs.PushRuns.{all-reach, last-page, last-alone, alone-done, last-pre, last-done}
 use borrow.Author.Needs.{needs}
 use Rattle.chunks.proofs.push.push_last.Statement.{statement}
 use Rattle.chunks.proofs.push.push_last.Tie as tie
@@ -8,4 +8,4 @@ push-last-spec =
     tie.close
     (tie.spec
     (λ c. search needs) (λ c. search needs) (λ c. search needs) (λ c κs. search last-page) (λ c κs. search all-reach) (λ c. search needs) (λ c. search needs) (λ c κs. search last-alone) (λ c. search needs) (λ c. search alone-done) (λ c. search needs) (λ c. search needs)
-    (λ c. search needs) (λ c. search needs) (λ c κs. search last-asks) (λ c. search needs) (λ c. search last-done))
+    (λ c. search needs) (λ c. search needs) (λ c κs. search last-pre) (λ c. search needs) (λ c. search last-done))

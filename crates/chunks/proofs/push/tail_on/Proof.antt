@@ -1,4 +1,4 @@
-use Rattle.chunks.proofs.PushRuns.{TailInv, tail-starts, tail-asks, tail-goes-on, tail-stops, tail-ends}
+use Rattle.chunks.proofs.PushRuns.{TailInv, tail-starts, tail-pre, tail-goes-on, tail-stops, tail-ends}
 use borrow.Author.Needs.{needs}
 use Rattle.chunks.proofs.push.tail_on.Statement.{statement}
 use Rattle.chunks.proofs.push.tail_on.Tie as tie
@@ -13,4 +13,4 @@ pub tail-on-spec : {M : Type 1} → statement M
 tail-on-spec =
     tie.close
     (tie.spec
-    Inv-loop μ-loop (λ c. search tail-starts) (λ c. search needs) (λ c κs. search tail-asks) (λ c. search needs) (λ c. search needs) (λ c. search tail-goes-on) (λ c. search tail-stops) (λ c. search tail-ends))
+    Inv-loop μ-loop (λ c. search tail-starts) (λ c. search needs) (λ c κs. search tail-pre) (λ c. search needs) (λ c. search needs) (λ c. search tail-goes-on) (λ c. search tail-stops) (λ c. search tail-ends))

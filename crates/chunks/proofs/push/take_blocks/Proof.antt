@@ -1,4 +1,4 @@
-use Rattle.chunks.proofs.PushLaws.{Clearing, clearing-none, clearing-asks, clearing-more, clearing-done}
+use Rattle.chunks.proofs.PushLaws.{Clearing, clearing-none, clearing-pre, clearing-more, clearing-done}
 use Prim.Native.Nat.{_-_}
 use lib.ListN.{length}
 use borrow.Author.Needs.{needs}
@@ -15,4 +15,4 @@ pub take-blocks-spec : {M : Type 1} → statement M
 take-blocks-spec =
     tie.close
     (tie.spec
-    Inv-loop μ-loop (λ c. search clearing-none) (λ c. search needs) (λ c. search needs) (λ c κs. search clearing-asks) (λ c. search needs) (λ c. search needs) (λ c. search clearing-more) (λ c. search needs) (λ c. search clearing-done))
+    Inv-loop μ-loop (λ c. search clearing-none) (λ c. search needs) (λ c. search needs) (λ c κs. search clearing-pre) (λ c. search needs) (λ c. search needs) (λ c. search clearing-more) (λ c. search needs) (λ c. search clearing-done))

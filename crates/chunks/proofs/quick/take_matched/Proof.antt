@@ -1,4 +1,4 @@
-use Rattle.chunks.proofs.MarkSteps.{ready-asks, set-asks, not-tried}
+use Rattle.chunks.proofs.MarkSteps.{clean-pre, set-pre, not-tried}
 use borrow.Author.Needs.{needs}
 use Rattle.chunks.proofs.quick.take_matched.Statement.{statement}
 use Rattle.chunks.proofs.quick.take_matched.Tie as tie
@@ -7,4 +7,4 @@ pub take-matched-spec : {M : Type 1} → statement M
 take-matched-spec =
     tie.close
     (tie.spec
-    (λ c. search needs) (λ c κs. search ready-asks) (λ c κs. search set-asks) (λ c. search needs) (λ c. search needs) (λ c. search needs) (λ c. search not-tried))
+    (λ c. search needs) (λ c κs. search clean-pre) (λ c κs. search set-pre) (λ c. search needs) (λ c. search needs) (λ c. search needs) (λ c. search not-tried))

@@ -1,5 +1,5 @@
 use borrow.Author.Needs.{needs}
-use Rattle.fields.proofs.Mark.{ones-some, ones-fit, ones-are}
+use Rattle.fields.proofs.OutBits.{ones-some, ones-fit, ones-are}
 use Rattle.fields.proofs.bits.ones.Statement.{statement}
 use Rattle.fields.proofs.bits.ones.Tie as tie
 

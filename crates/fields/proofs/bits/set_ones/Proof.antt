@@ -1,6 +1,6 @@
 use borrow.Author.Needs.{needs}
 use native.Mathlib.Omega.{arith}
-use Rattle.fields.proofs.Mark.{ones-set}
+use Rattle.fields.proofs.OutBits.{ones-set}
 use Rattle.fields.proofs.bits.set_ones.Statement.{statement}
 use Rattle.fields.proofs.bits.set_ones.Tie as tie
 

@@ -2,7 +2,7 @@ use native.Mathlib.Omega.{arith}
 use Prim.Native.Nat.{_+_, _*_}
 use mathlib.Core.Path.{refl}
 use borrow.Author.Needs.{needs}
-use Rattle.fields.proofs.Mark.{paired}
+use Rattle.fields.proofs.OutBits.{paired}
 use Rattle.fields.proofs.slot.set_pair.Statement.{statement}
 use Rattle.fields.proofs.slot.set_pair.Tie as tie
 

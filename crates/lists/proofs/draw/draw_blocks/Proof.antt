@@ -1,4 +1,4 @@
-use Rattle.lists.proofs.DrawSteps.{draw-asks, draw-done}
+use Rattle.lists.proofs.DrawSteps.{draw-pre, draw-done}
 use borrow.Author.Needs.{needs}
 use Rattle.lists.proofs.draw.draw_blocks.Statement.{statement}
 use Rattle.lists.proofs.draw.draw_blocks.Tie as tie
@@ -12,4 +12,4 @@ returns c =
     (g .give-blocks .ensures) (c .before .before .before .before .before .before .set-free .ensures) (c .before .before .set-carved .ensures)
 
 pub draw-blocks-spec : {M : Type 1} → statement M
-draw-blocks-spec = tie.close (tie.spec (λ c κs. search needs) (λ c κs. search needs) (λ c κs. search needs) (λ c. search needs) (λ c. search needs) (λ c κs. search needs) (λ c κs. search draw-asks) (λ c. search needs) (λ c κs. search needs) (λ c. search needs) (λ c κs. search needs) (λ c. search needs) (λ c. search needs) (λ c. search needs) returns)
+draw-blocks-spec = tie.close (tie.spec (λ c κs. search needs) (λ c κs. search needs) (λ c κs. search needs) (λ c. search needs) (λ c. search needs) (λ c κs. search needs) (λ c κs. search draw-pre) (λ c. search needs) (λ c κs. search needs) (λ c. search needs) (λ c κs. search needs) (λ c. search needs) (λ c. search needs) (λ c. search needs) returns)

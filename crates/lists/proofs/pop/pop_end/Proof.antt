@@ -1,4 +1,4 @@
-use Rattle.lists.proofs.PopSteps.{end-asks, end-one, end-none}
+use Rattle.lists.proofs.PopSteps.{end-pre, end-one, end-none}
 use borrow.Author.Needs.{needs}
 use Rattle.lists.proofs.pop.pop_end.Statement.{statement}
 use Rattle.lists.proofs.pop.pop_end.Tie as tie
@@ -9,7 +9,7 @@ pop-end-spec =
     (tie.spec
     (λ c. search needs)
     (λ c κs. search needs)
-    (λ c κs. search end-asks)
+    (λ c κs. search end-pre)
     (λ c. search needs)
     (λ c. search needs)
     (λ c. search end-one)

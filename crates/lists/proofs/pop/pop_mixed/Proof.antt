@@ -1,5 +1,5 @@
 use Prim.Native.Nat.{_-_}
-use Rattle.lists.proofs.PopSteps.{Pairs, pairs-none, pairs-asks, pairs-more, pairs-done}
+use Rattle.lists.proofs.PopSteps.{Pairs, pairs-none, pairs-pre, pairs-more, pairs-done}
 use borrow.Author.Needs.{needs}
 use Rattle.lists.proofs.pop.pop_mixed.Statement.{statement}
 use Rattle.lists.proofs.pop.pop_mixed.Tie as tie
@@ -21,7 +21,7 @@ pop-mixed-spec =
     (λ c. search needs)
     (λ c. search needs)
     (λ c. search needs)
-    (λ c κs. search pairs-asks)
+    (λ c κs. search pairs-pre)
     (λ c. search needs)
     (λ c. search needs)
     (λ c. search pairs-more)

@@ -1,6 +1,6 @@
 use native.Mathlib.Omega.{arith}
 use borrow.Author.Needs.{needs}
-use Rattle.lists.proofs.PopSteps.{pairs-empty, ends-below, rise-asks, raise-asks, raised, fall-asks, lower-asks, lowered}
+use Rattle.lists.proofs.PopSteps.{pairs-empty, ends-below, rise-pre, raise-pre, raised, fall-pre, lower-pre, lowered}
 use Rattle.lists.proofs.pop.pop_pairs.Statement.{statement}
 use Rattle.lists.proofs.pop.pop_pairs.Tie as tie
 
@@ -11,13 +11,13 @@ add-if2-2 : tie.Need-add-if2-2
 add-if2-2 c = let h = ends-below _ _ _ _ _ _ _ (c .before .before .before .before .before .before .before .pre) (c .before .before .before .before .if1 .left) _ _ (c .before .before .entry .ensures) (c .entry2 .ensures) in omega (arith, h .0, h .1)
 
 rises-requires : tie.Need-rises-requires
-rises-requires c κs = let e = c .before .before in rise-asks _ _ _ _ _ _ _ (e .before .before .before .before .before .before .before .pre) (e .before .before .before .before .if1 .left) _ _ (e .before .before .entry .ensures) (e .entry2 .ensures) (c .before .if2 .taken)
+rises-requires c κs = let e = c .before .before in rise-pre _ _ _ _ _ _ _ (e .before .before .before .before .before .before .before .pre) (e .before .before .before .before .if1 .left) _ _ (e .before .before .entry .ensures) (e .entry2 .ensures) (c .before .if2 .taken)
 
 raise-blocks-requires : tie.Need-raise-blocks-requires
 raise-blocks-requires c κs =
     let r = c .before .before .before in
     let e = r .before .before .before in
-    raise-asks _ _ _ _ _ _ _ (e .before .before .before .before .before .before .before .pre) (e .before .before .before .before .if1 .left) _ _ (e .before .before .entry .ensures) (e .entry2 .ensures) (r .before .before .if2 .taken)
+    raise-pre _ _ _ _ _ _ _ (e .before .before .before .before .before .before .before .pre) (e .before .before .before .before .if1 .left) _ _ (e .before .before .entry .ensures) (e .entry2 .ensures) (r .before .before .if2 .taken)
 
 returns-2 : tie.Need-returns-2
 returns-2 c =
@@ -33,13 +33,13 @@ add-if4-2 : tie.Need-add-if4-2
 add-if4-2 c = let e = c .before in let h = ends-below _ _ _ _ _ _ _ (e .before .before .before .before .before .before .before .pre) (e .before .before .before .before .if1 .left) _ _ (e .before .before .entry .ensures) (e .entry2 .ensures) in omega (arith, h .0, h .1)
 
 falls-requires : tie.Need-falls-requires
-falls-requires c κs = let e = c .before .before .before in fall-asks _ _ _ _ _ _ _ (e .before .before .before .before .before .before .before .pre) (e .before .before .before .before .if1 .left) _ _ (e .before .before .entry .ensures) (e .entry2 .ensures) (c .before .if4 .taken)
+falls-requires c κs = let e = c .before .before .before in fall-pre _ _ _ _ _ _ _ (e .before .before .before .before .before .before .before .pre) (e .before .before .before .before .if1 .left) _ _ (e .before .before .entry .ensures) (e .entry2 .ensures) (c .before .if4 .taken)
 
 carve-blocks-requires : tie.Need-carve-blocks-requires
 carve-blocks-requires c κs =
     let r = c .before .before .before in
     let e = r .before .before .before .before in
-    lower-asks _ _ _ _ _ _ _ (e .before .before .before .before .before .before .before .pre) (e .before .before .before .before .if1 .left) _ _ (e .before .before .entry .ensures) (e .entry2 .ensures) (r .before .before .if4 .taken)
+    lower-pre _ _ _ _ _ _ _ (e .before .before .before .before .before .before .before .pre) (e .before .before .before .before .if1 .left) _ _ (e .before .before .entry .ensures) (e .entry2 .ensures) (r .before .before .if4 .taken)
 
 returns-3 : tie.Need-returns-3
 returns-3 c =

@@ -1,5 +1,5 @@
 use borrow.Author.Needs.{needs}
-use Rattle.lists.proofs.PopSteps.{odd-asks, words-asks, rest-asks, some-done}
+use Rattle.lists.proofs.PopSteps.{odd-pre, words-pre, rest-pre, some-done}
 use Rattle.lists.proofs.pop.pop_some.Statement.{statement}
 use Rattle.lists.proofs.pop.pop_some.Tie as tie
 
@@ -10,13 +10,13 @@ pop-some-spec =
     (λ c. search needs)
     (λ c. search needs)
     (λ c. search needs)
-    (λ c κs. odd-asks _ _ _ _ _ _ _ (c .before .before .before .before .pre .0) (c .before .before .before .before .pre .1))
+    (λ c κs. odd-pre _ _ _ _ _ _ _ (c .before .before .before .before .pre .0) (c .before .before .before .before .pre .1))
     (λ c. search needs)
-    (λ c κs. words-asks _ _ _ _ _ _ _ (c .before .before .before .before .before .before .before .before .before .before .before .pre .0) (c .before .before .before .before .before .before .before .before .before .before .before .pre .1) _ _ (c .before .before .before .before .before .before .pop-end .ensures))
+    (λ c κs. words-pre _ _ _ _ _ _ _ (c .before .before .before .before .before .before .before .before .before .before .before .pre .0) (c .before .before .before .before .before .before .before .before .before .before .before .pre .1) _ _ (c .before .before .before .before .before .before .pop-end .ensures))
     (λ c. search needs)
     (λ c. search needs)
     (λ c. search needs)
-    (λ c κs. rest-asks _ _ _ _ _ _ _ (c .before .before .before .before .before .before .before .before .before .before .before .before .before .before .before .before .before .before .pre .0) (c .before .before .before .before .before .before .before .before .before .before .before .before .before .before .before .before .before .before .pre .1) _ _ (c .before .before .before .before .before .before .before .before .before .before .before .before .before .pop-end .ensures) _ _ (c .before .before .before .before .before .before .pop-pairs .ensures))
+    (λ c κs. rest-pre _ _ _ _ _ _ _ (c .before .before .before .before .before .before .before .before .before .before .before .before .before .before .before .before .before .before .pre .0) (c .before .before .before .before .before .before .before .before .before .before .before .before .before .before .before .before .before .before .pre .1) _ _ (c .before .before .before .before .before .before .before .before .before .before .before .before .before .pop-end .ensures) _ _ (c .before .before .before .before .before .before .pop-pairs .ensures))
     (λ c. search needs)
     (λ c. search needs)
     (λ c. some-done _ _ _ _ _ _ _ (c .before .before .before .before .before .before .before .before .before .before .before .before .before .before .before .before .before .before .before .before .before .before .before .pre .0) (c .before .before .before .before .before .before .before .before .before .before .before .before .before .before .before .before .before .before .before .before .before .before .before .pre .1) _ _ (c .before .before .before .before .before .before .before .before .before .before .before .before .before .before .before .before .before .before .pop-end .ensures) _ _ (c .before .before .before .before .before .before .before .before .before .before .before .pop-pairs .ensures) _ _ (c .before .before .before .before .pop-end2 .ensures)))

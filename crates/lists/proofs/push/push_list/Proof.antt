@@ -8,7 +8,7 @@ returns c =
     let v = c .before .before .before .before .before .before in
     let l = v .before .before .before .before in
     let a = l .before .before .before .before .before .before .args in
-    push-done _ (a .shape) _ _ (a .list .now) _ _ _ (l .before .before .free .ensures) (l .lay-blocks .ensures) (v .set-virgin .ensures) (c .before .before .set-free .ensures)
+    push-done _ (a .shape) _ _ (a .list .now) _ _ _ (l .before .before .free .ensures) (l .push-entries .ensures) (v .set-virgin .ensures) (c .before .before .set-free .ensures)
 
 pub push-list-spec : {M : Type 1} → statement M
 push-list-spec = tie.close (tie.spec (λ c κs. search needs) (λ c κs. (search needs, search needs)) (λ c κs. search needs) (λ c. search needs) (λ c. search needs) (λ c κs. search needs) (λ c. search needs) returns)

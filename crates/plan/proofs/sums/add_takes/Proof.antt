@@ -1,7 +1,7 @@
 use Prim.Native.Nat.{_-_}
 use lib.ListN.{length}
 use borrow.Author.Needs.{needs}
-use Rattle.plan.proofs.AddSteps.{AddInv, add-start, add-asks, add-next, add-end}
+use Rattle.plan.proofs.AddSteps.{AddInv, add-start, add-pre, add-next, add-end}
 use Rattle.plan.proofs.sums.add_takes.Statement.{statement}
 use Rattle.plan.proofs.sums.add_takes.Tie as tie
 
@@ -16,4 +16,4 @@ add-takes-spec =
     tie.close
     (tie.spec
     Inv-loop μ-loop (λ c. search add-start) (λ c. search needs) (λ c. search needs) (λ c κs. search needs) (λ c. search needs) (λ c. search needs)
-    (λ c κs. search add-asks) (λ c. search needs) (λ c. search needs) (λ c. search add-next) (λ c. search add-end))
+    (λ c κs. search add-pre) (λ c. search needs) (λ c. search needs) (λ c. search add-next) (λ c. search add-end))

@@ -1,4 +1,4 @@
-use Rattle.release.proofs.OneSteps.{shape-asks, in-run-asks, one-no-run, one-of-class}
+use Rattle.release.proofs.OneSteps.{shape-pre, in-run-pre, one-no-run, one-of-class}
 use borrow.Author.Needs.{needs}
 use Rattle.release.proofs.one.release_one.Statement.{statement}
 use Rattle.release.proofs.one.release_one.Tie as tie
@@ -7,4 +7,4 @@ pub release-one-spec : {M : Type 1} → statement M
 release-one-spec =
     tie.close
     (tie.spec
-    (λ c κs. search needs) (λ c κs. search shape-asks) (λ c. search needs) (λ c. search needs) (λ c. search needs) (λ c. search one-no-run) (λ c κs. search in-run-asks) (λ c. search needs) (λ c. search one-of-class))
+    (λ c κs. search needs) (λ c κs. search shape-pre) (λ c. search needs) (λ c. search needs) (λ c. search needs) (λ c. search one-no-run) (λ c κs. search in-run-pre) (λ c. search needs) (λ c. search one-of-class))

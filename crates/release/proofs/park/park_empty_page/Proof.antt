@@ -1,4 +1,4 @@
-use Rattle.release.proofs.ParkSteps.{store-asks, parked-at}
+use Rattle.release.proofs.ParkSteps.{store-pre, parked-at}
 use borrow.Author.Needs.{needs}
 use Rattle.release.proofs.park.park_empty_page.Statement.{statement}
 use Rattle.release.proofs.park.park_empty_page.Tie as tie
@@ -7,4 +7,4 @@ pub park-empty-page-spec : {M : Type 1} → statement M
 park-empty-page-spec =
     tie.close
     (tie.spec
-    (λ c κs. search needs) (λ c κs. search needs) (λ c κs. search store-asks) (λ c. search needs) (λ c. search needs) (λ c. search parked-at))
+    (λ c κs. search needs) (λ c κs. search needs) (λ c κs. search store-pre) (λ c. search needs) (λ c. search needs) (λ c. search parked-at))

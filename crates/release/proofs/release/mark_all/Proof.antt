@@ -1,4 +1,4 @@
-use Rattle.release.proofs.ReleaseSteps.{marks-asks, all-set, clear-asks, not-all-set, some-set}
+use Rattle.release.proofs.ReleaseSteps.{marks-pre, all-set, clear-pre, not-all-set, some-set}
 use borrow.Author.Needs.{needs}
 use Rattle.release.proofs.release.mark_all.Statement.{statement}
 use Rattle.release.proofs.release.mark_all.Tie as tie
@@ -7,4 +7,4 @@ pub mark-all-spec : {M : Type 1} → statement M
 mark-all-spec =
     tie.close
     (tie.spec
-    (λ c κs. search needs) (λ c κs. search marks-asks) (λ c κs. search needs) (λ c. search needs) (λ c. search all-set) (λ c κs. search clear-asks) (λ c. search needs) (λ c. search not-all-set) (λ c. search needs) (λ c. search some-set))
+    (λ c κs. search needs) (λ c κs. search marks-pre) (λ c κs. search needs) (λ c. search needs) (λ c. search all-set) (λ c κs. search clear-pre) (λ c. search needs) (λ c. search not-all-set) (λ c. search needs) (λ c. search some-set))

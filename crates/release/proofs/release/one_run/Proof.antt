@@ -1,4 +1,4 @@
-use Rattle.release.proofs.ReleaseSteps.{some-listed, first-fits, first-asks, start-asks, other-run, this-run}
+use Rattle.release.proofs.ReleaseSteps.{some-listed, first-fits, first-pre, start-pre, other-run, this-run}
 use Rattle.release.proofs.release.one_run.Statement.{statement}
 use Rattle.release.proofs.release.one_run.Tie as tie
 
@@ -6,4 +6,4 @@ pub one-run-spec : {M : Type 1} → statement M
 one-run-spec =
     tie.close
     (tie.spec
-    (λ c. search some-listed) (λ c κs. search first-fits) (λ c κs. search first-asks) (λ c κs. search start-asks) (λ c. search this-run) (λ c. search other-run))
+    (λ c. search some-listed) (λ c κs. search first-fits) (λ c κs. search first-pre) (λ c κs. search start-pre) (λ c. search this-run) (λ c. search other-run))

@@ -1,4 +1,4 @@
-use Rattle.release.proofs.ReleaseSteps.{ready-at-once, test-asks, tested}
+use Rattle.release.proofs.ReleaseSteps.{ready-at-once, test-pre, tested}
 use borrow.Author.Needs.{needs}
 use Rattle.release.proofs.release.prepare.Statement.{statement}
 use Rattle.release.proofs.release.prepare.Tie as tie
@@ -7,4 +7,4 @@ pub prepare-spec : {M : Type 1} → statement M
 prepare-spec =
     tie.close
     (tie.spec
-    (λ c κs. search needs) (λ c. search needs) (λ c. search needs) (λ c κs. search test-asks) (λ c. search needs) (λ c. search tested) (λ c κs. search needs) (λ c. search needs) (λ c. search ready-at-once))
+    (λ c κs. search needs) (λ c. search needs) (λ c. search needs) (λ c κs. search test-pre) (λ c. search needs) (λ c. search tested) (λ c κs. search needs) (λ c. search needs) (λ c. search ready-at-once))

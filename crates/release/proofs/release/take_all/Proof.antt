@@ -1,4 +1,4 @@
-use Rattle.release.proofs.ReleaseSteps.{by-list, by-words, sweep-asks}
+use Rattle.release.proofs.ReleaseSteps.{by-list, by-words, sweep-pre}
 use borrow.Author.Needs.{needs}
 use Rattle.release.proofs.release.take_all.Statement.{statement}
 use Rattle.release.proofs.release.take_all.Tie as tie
@@ -7,4 +7,4 @@ pub take-all-spec : {M : Type 1} → statement M
 take-all-spec =
     tie.close
     (tie.spec
-    (λ c κs. search needs) (λ c. search needs) (λ c. search by-list) (λ c κs. search sweep-asks) (λ c. search needs) (λ c. search by-words))
+    (λ c κs. search needs) (λ c. search needs) (λ c. search by-list) (λ c κs. search sweep-pre) (λ c. search needs) (λ c. search by-words))

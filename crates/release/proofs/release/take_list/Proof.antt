@@ -1,4 +1,4 @@
-use Rattle.release.proofs.ListSteps.{Taking, taking-none, taking-asks, taking-block, taking-bit, taking-more, taking-done}
+use Rattle.release.proofs.ListSteps.{Taking, taking-none, taking-pre, taking-block, taking-bit, taking-more, taking-done}
 use borrow.Author.Needs.{needs}
 use Rattle.release.proofs.release.take_list.Statement.{statement}
 use Rattle.release.proofs.release.take_list.Tie as tie
@@ -13,4 +13,4 @@ pub take-list-spec : {M : Type 1} → statement M
 take-list-spec =
     tie.close
     (tie.spec
-    Inv-loop μ-loop (λ c. search taking-none) (λ c. search needs) (λ c. search needs) (λ c. search needs) (λ c κs. (search taking-asks, search taking-block)) (λ c κs. search taking-bit) (λ c. search needs) (λ c. search taking-more) (λ c. search needs) (λ c. search taking-done))
+    Inv-loop μ-loop (λ c. search taking-none) (λ c. search needs) (λ c. search needs) (λ c. search needs) (λ c κs. (search taking-pre, search taking-block)) (λ c κs. search taking-bit) (λ c. search needs) (λ c. search taking-more) (λ c. search needs) (λ c. search taking-done))

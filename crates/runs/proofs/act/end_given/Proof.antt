@@ -8,7 +8,7 @@ use Rattle.runs.specs.way.Act.{endGiven}
 use Rattle.runs.proofs.Calling.{Plain}
 use denote.Struct.Laws as laws
 use Rattle.runs.specs.declared.Back.{Back}
-use Rattle.runs.specs.way.Asks.{BackIn}
+use Rattle.runs.specs.way.Pre.{BackIn}
 use Rattle.runs.proofs.Back as B
 use Rattle.runs.proofs.Arena as T
 use Rattle.runs.proofs.record.Draw as U

@@ -1,17 +1,17 @@
 use borrow.Author.Needs.{needs}
-use Rattle.runs.specs.way.Scan.{noBeside, besideAt}
-use Rattle.runs.proofs.Planning.{Weighing, weighs-start, part-weighs, one-weighs, touches-done}
+use Rattle.runs.specs.way.Scan.{noNeighbours, neighboursAt}
+use Rattle.runs.proofs.Planning.{ScanSoFar, scans-start, part-scans, one-scans, touches-done}
 use Rattle.runs.proofs.plans.neighbours.Statement.{statement}
 use Rattle.runs.proofs.plans.neighbours.Tie as tie
 
 abbrev Inv-loop : tie.InvT-loop
-Inv-loop meta count run sides₀ left₀ sides left = Weighing (besideAt run) noBeside meta count sides left
+Inv-loop meta count run sides₀ left₀ sides left = ScanSoFar (neighboursAt run) noNeighbours meta count sides left
 
 abbrev μ-loop : tie.MeasureT-loop
 μ-loop meta count run sides₀ left₀ sides left = left
 
 abbrev Inv-loop2 : tie.InvT-loop2
-Inv-loop2 meta count run sides₀ left₀ sides left = Weighing (besideAt run) noBeside meta count sides left
+Inv-loop2 meta count run sides₀ left₀ sides left = ScanSoFar (neighboursAt run) noNeighbours meta count sides left
 
 abbrev μ-loop2 : tie.MeasureT-loop2
 μ-loop2 meta count run sides₀ left₀ sides left = left
@@ -20,5 +20,5 @@ pub neighbours-spec : {M : Type 1} → statement M
 neighbours-spec =
     tie.close
     (tie.spec
-    Inv-loop μ-loop Inv-loop2 μ-loop2 (λ c. search weighs-start) (λ c κs. search needs) (λ c κs. search needs) (λ c. search needs) (λ c. search part-weighs) (λ c. search needs)
-    (λ c. search needs) (λ c κs. search needs) (λ c κs. search needs) (λ c. search needs) (λ c. search one-weighs) (λ c. search touches-done))
+    Inv-loop μ-loop Inv-loop2 μ-loop2 (λ c. search scans-start) (λ c κs. search needs) (λ c κs. search needs) (λ c. search needs) (λ c. search part-scans) (λ c. search needs)
+    (λ c. search needs) (λ c κs. search needs) (λ c κs. search needs) (λ c. search needs) (λ c. search one-scans) (λ c. search touches-done))

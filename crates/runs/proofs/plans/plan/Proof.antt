@@ -1,5 +1,5 @@
 use borrow.Author.Needs.{needs}
-use Rattle.runs.proofs.Planning.{found-small, plans-none, plans-unfair, plans-found}
+use Rattle.runs.proofs.Planning.{found-small, plans-none, plans-invalid, plans-found}
 use Rattle.runs.proofs.plans.plan.Statement.{statement}
 use Rattle.runs.proofs.plans.plan.Tie as tie
 
@@ -7,4 +7,4 @@ pub plan-spec : {M : Type 1} → statement M
 plan-spec =
     tie.close
     (tie.spec
-    (λ c. search plans-none) (λ c κs. search needs) (λ c. search plans-unfair) (λ c. search found-small) (λ c. search plans-found))
+    (λ c. search plans-none) (λ c κs. search needs) (λ c. search plans-invalid) (λ c. search found-small) (λ c. search plans-found))

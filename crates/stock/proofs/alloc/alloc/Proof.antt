@@ -1,4 +1,4 @@
-use Rattle.stock.proofs.AllocSteps.{alloc-took, alloc-unfair, alloc-popped}
+use Rattle.stock.proofs.AllocSteps.{alloc-took, alloc-invalid, alloc-popped}
 use Rattle.stock.proofs.TopSteps.{top-low}
 use borrow.Author.Needs.{needs}
 use Rattle.stock.proofs.alloc.alloc.Statement.{statement}
@@ -16,14 +16,14 @@ same-length c = search needs
 returns : tie.Need-returns
 returns c = search alloc-took
 
-top-fair-requires : tie.Need-top-fair-requires
-top-fair-requires c κs = search needs
+top-valid-requires : tie.Need-top-valid-requires
+top-valid-requires c κs = search needs
 
 same-length-2 : tie.Need-same-length-2
 same-length-2 c = search needs
 
 returns-2 : tie.Need-returns-2
-returns-2 c = search alloc-unfair
+returns-2 c = search alloc-invalid
 
 sub-entry : tie.Need-sub-entry
 sub-entry c = search needs
@@ -54,7 +54,7 @@ alloc-spec =
     refill-requires
     same-length
     returns
-    top-fair-requires
+    top-valid-requires
     same-length-2
     returns-2
     sub-entry

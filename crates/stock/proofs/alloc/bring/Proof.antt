@@ -1,4 +1,4 @@
-use Rattle.stock.proofs.AllocSteps.{bring-none, others-asks, bring-last}
+use Rattle.stock.proofs.AllocSteps.{bring-none, others-pre, bring-last}
 use borrow.Author.Needs.{needs}
 use Rattle.stock.proofs.alloc.bring.Statement.{statement}
 use Rattle.stock.proofs.alloc.bring.Tie as tie
@@ -10,7 +10,7 @@ sub-put-all : tie.Need-sub-put-all
 sub-put-all c = search needs
 
 put-all-requires : tie.Need-put-all-requires
-put-all-requires c κs = (search needs, search others-asks)
+put-all-requires c κs = (search needs, search others-pre)
 
 sub-set-count : tie.Need-sub-set-count
 sub-set-count c = search needs

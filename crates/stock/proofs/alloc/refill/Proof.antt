@@ -1,4 +1,4 @@
-use Rattle.stock.proofs.AllocSteps.{took-asks, refill-refused, refill-took}
+use Rattle.stock.proofs.AllocSteps.{took-pre, refill-refused, refill-took}
 use borrow.Author.Needs.{needs}
 use Rattle.stock.proofs.alloc.refill.Statement.{statement}
 use Rattle.stock.proofs.alloc.refill.Tie as tie
@@ -19,7 +19,7 @@ slice-aggregate-bring : tie.Need-slice-aggregate-bring
 slice-aggregate-bring c = search needs
 
 bring-requires : tie.Need-bring-requires
-bring-requires c κs = (search needs, search took-asks)
+bring-requires c κs = (search needs, search took-pre)
 
 same-length : tie.Need-same-length
 same-length c = search needs

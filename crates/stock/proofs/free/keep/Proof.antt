@@ -1,10 +1,10 @@
-use Rattle.stock.proofs.FreeSteps.{asks-call, word-low, keep-absent, keep-beyond, keep-low, keep-pushed}
+use Rattle.stock.proofs.FreeSteps.{pre-call, word-low, keep-absent, keep-beyond, keep-low, keep-pushed}
 use borrow.Author.Needs.{needs}
 use Rattle.stock.proofs.free.keep.Statement.{statement}
 use Rattle.stock.proofs.free.keep.Tie as tie
 
 is-out-requires : tie.Need-is-out-requires
-is-out-requires c κs = search (needs, asks-call, word-low)
+is-out-requires c κs = search (needs, pre-call, word-low)
 
 same-length : tie.Need-same-length
 same-length c = search needs

@@ -1,4 +1,4 @@
-use Rattle.stock.proofs.FreeSteps.{free-stocked, free-asks, free-full, not-full, free-kept}
+use Rattle.stock.proofs.FreeSteps.{free-stocked, free-pre, free-full, not-full, free-kept}
 use borrow.Author.Needs.{needs}
 use Rattle.stock.proofs.free.take_back.Statement.{statement}
 use Rattle.stock.proofs.free.take_back.Tie as tie
@@ -28,7 +28,7 @@ returns-2 : tie.Need-returns-2
 returns-2 c = search free-full
 
 keep-requires : tie.Need-keep-requires
-keep-requires c κs = (search free-asks, (search needs, search not-full))
+keep-requires c κs = (search free-pre, (search needs, search not-full))
 
 same-length-3 : tie.Need-same-length-3
 same-length-3 c = search needs

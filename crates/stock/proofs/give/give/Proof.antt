@@ -1,22 +1,22 @@
-use Rattle.stock.proofs.GiveSteps.{class-asks-of, gave-one, list-asks, gave-refused, gave-fate}
+use Rattle.stock.proofs.GiveSteps.{class-pre-of, released-one, list-pre, released-one-refused, released-one-fate}
 use borrow.Author.Needs.{needs}
 use Rattle.stock.proofs.give.give.Statement.{statement}
 use Rattle.stock.proofs.give.give.Tie as tie
 
 release-one-requires : tie.Need-release-one-requires
-release-one-requires c κs = search class-asks-of
+release-one-requires c κs = search class-pre-of
 
 same-length : tie.Need-same-length
 same-length c = search needs
 
 returns : tie.Need-returns
-returns c = search gave-one
+returns c = search released-one
 
 slice-aggregate-release-list : tie.Need-slice-aggregate-release-list
 slice-aggregate-release-list c = search needs
 
 release-list-requires : tie.Need-release-list-requires
-release-list-requires c κs = search list-asks
+release-list-requires c κs = search list-pre
 
 enum-known-k : tie.Need-enum-known-k
 enum-known-k c = search needs
@@ -28,13 +28,13 @@ same-length-2 : tie.Need-same-length-2
 same-length-2 c = search needs
 
 returns-2 : tie.Need-returns-2
-returns-2 c = search gave-refused
+returns-2 c = search released-one-refused
 
 same-length-3 : tie.Need-same-length-3
 same-length-3 c = search needs
 
 returns-3 : tie.Need-returns-3
-returns-3 c = search gave-fate
+returns-3 c = search released-one-fate
 
 pub give-spec : {M : Type 1} → statement M
 give-spec =

@@ -1,4 +1,4 @@
-use Rattle.stock.proofs.GiveSteps.{class-asks}
+use Rattle.stock.proofs.GiveSteps.{class-pre}
 use Rattle.stock.proofs.OutSteps.{out-nowhere, out-block}
 use borrow.Author.Needs.{needs}
 use Rattle.stock.proofs.out.out_at.Statement.{statement}
@@ -8,7 +8,7 @@ shape-of-requires : tie.Need-shape-of-requires
 shape-of-requires c κs = search needs
 
 find-out-requires : tie.Need-find-out-requires
-find-out-requires c κs = search class-asks
+find-out-requires c κs = search class-pre
 
 enum-told : tie.Need-enum-told
 enum-told c = search needs

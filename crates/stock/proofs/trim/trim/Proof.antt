@@ -1,4 +1,4 @@
-use Rattle.stock.proofs.TrimSteps.{trim-none, trim-unfair, trim-refused, trim-given}
+use Rattle.stock.proofs.TrimSteps.{trim-none, trim-invalid, trim-refused, trim-given}
 use Rattle.stock.proofs.TopSteps.{top-low}
 use borrow.Author.Needs.{needs}
 use Rattle.stock.proofs.trim.trim.Statement.{statement}
@@ -13,14 +13,14 @@ same-length c = search needs
 returns : tie.Need-returns
 returns c = search trim-none
 
-top-fair-requires : tie.Need-top-fair-requires
-top-fair-requires c κs = search needs
+top-valid-requires : tie.Need-top-valid-requires
+top-valid-requires c κs = search needs
 
 same-length-2 : tie.Need-same-length-2
 same-length-2 c = search needs
 
 returns-2 : tie.Need-returns-2
-returns-2 c = search trim-unfair
+returns-2 c = search trim-invalid
 
 sub-entry : tie.Need-sub-entry
 sub-entry c = search needs
@@ -59,7 +59,7 @@ trim-spec =
     count-requires
     same-length
     returns
-    top-fair-requires
+    top-valid-requires
     same-length-2
     returns-2
     sub-entry

@@ -1,5 +1,5 @@
 use borrow.Author.Needs.{needs}
-use Rattle.take.proofs.TakeSteps.{call-short, call-asks, call-done}
+use Rattle.take.proofs.TakeSteps.{call-short, call-pre, call-done}
 use Rattle.take.proofs.call.take_sized.Statement.{statement}
 use Rattle.take.proofs.call.take_sized.Tie as tie
 
@@ -10,7 +10,7 @@ take-sized-spec =
     (λ c κs. search needs)
     (λ c. search needs)
     (λ c. search call-short)
-    (λ c κs. search call-asks)
+    (λ c κs. search call-pre)
     (λ c. search needs)
     (λ c. search needs)
     (λ c. search call-done))

@@ -1,5 +1,5 @@
 use borrow.Author.Needs.{needs}
-use Rattle.take.proofs.PlanSteps.{sound-broken, sound-header, sound-tops, run-there, run-free, run-carved, header-tops}
+use Rattle.take.proofs.PlanSteps.{sound-broken, sound-header, sound-top-entries, run-there, run-free, run-carved, header-top-entries}
 use Rattle.take.proofs.take_plan.page_sound.Statement.{statement}
 use Rattle.take.proofs.take_plan.page_sound.Tie as tie
 
@@ -13,5 +13,5 @@ page-sound-spec =
     (λ c. search sound-header)
     (λ c κs. search run-free)
     (λ c κs. search run-carved)
-    (λ c κs. search header-tops)
-    (λ c. search sound-tops))
+    (λ c κs. search header-top-entries)
+    (λ c. search sound-top-entries))

@@ -1,5 +1,5 @@
 use borrow.Author.Needs.{needs}
-use Rattle.take.proofs.TakeSteps.{plan-unfair, plan-listed, plan-none, plan-stored}
+use Rattle.take.proofs.TakeSteps.{plan-invalid, plan-listed, plan-none, plan-stored}
 use Rattle.take.proofs.take_plan.plan_take.Statement.{statement}
 use Rattle.take.proofs.take_plan.plan_take.Tie as tie
 
@@ -36,5 +36,5 @@ pub plan-take-spec : {M : Type 1} → statement M
 plan-take-spec =
     tie.close
     (tie.spec
-    (λ c κs. search needs) (λ c. search plan-unfair) (λ c κs. search needs) (λ c κs. search needs) returns-2
+    (λ c κs. search needs) (λ c. search plan-invalid) (λ c κs. search needs) (λ c κs. search needs) returns-2
     (λ c κs. search needs) (λ c κs. search needs) returns-3 (λ c κs. search needs) returns-4)

@@ -18,14 +18,14 @@ enum-known-k c = search needs
 enum-known-m : tie.Need-enum-known-m
 enum-known-m c = search needs
 
-slice-aggregate-lay : tie.Need-slice-aggregate-lay
-slice-aggregate-lay c = search needs
+slice-aggregate-paste : tie.Need-slice-aggregate-paste
+slice-aggregate-paste c = search needs
 
-cast-lay : tie.Need-cast-lay
-cast-lay c = search needs
+cast-paste : tie.Need-cast-paste
+cast-paste c = search needs
 
-lay-requires : tie.Need-lay-requires
-lay-requires c κs = (search now-room, search now-listed)
+paste-requires : tie.Need-paste-requires
+paste-requires c κs = (search now-room, search now-listed)
 
 same-length : tie.Need-same-length
 same-length c = search needs
@@ -51,9 +51,9 @@ take-now-spec =
     take-call-requires
     enum-known-k
     enum-known-m
-    slice-aggregate-lay
-    cast-lay
-    lay-requires
+    slice-aggregate-paste
+    cast-paste
+    paste-requires
     same-length
     returns
     same-length-2

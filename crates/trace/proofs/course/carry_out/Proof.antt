@@ -2,7 +2,7 @@ use Prim.Native.Nat.{_-_}
 use lib.ListN.{length}
 use borrow.Author.Needs.{needs}
 use Rattle.trace.specs.way.Steps.{lent}
-use Rattle.trace.proofs.CourseLaws.{Onward, onward-start, onward-ends, onward-stops, onward-more, asks-now}
+use Rattle.trace.proofs.CourseLaws.{Onward, onward-start, onward-ends, onward-stops, onward-more, pre-now}
 use Rattle.trace.proofs.course.carry_out.Statement.{statement}
 use Rattle.trace.proofs.course.carry_out.Tie as tie
 
@@ -22,7 +22,7 @@ shared-slice-read-word : tie.Need-shared-slice-read-word Inv-loop μ-loop
 shared-slice-read-word c = search needs
 
 word-requires : tie.Need-word-requires Inv-loop μ-loop
-word-requires c κs = search asks-now
+word-requires c κs = search pre-now
 
 enum-told : tie.Need-enum-told Inv-loop μ-loop
 enum-told c = search needs

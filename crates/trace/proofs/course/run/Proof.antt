@@ -9,8 +9,8 @@ open-plain-requires c κs = search needs
 carry-out-requires : tie.Need-carry-out-requires
 carry-out-requires c κs = search needs
 
-straighten-requires : tie.Need-straighten-requires
-straighten-requires c κs = search needs
+restore-kinds-requires : tie.Need-restore-kinds-requires
+restore-kinds-requires c κs = search needs
 
 same-length : tie.Need-same-length
 same-length c = search needs
@@ -30,7 +30,7 @@ run-spec =
     (tie.spec
     open-plain-requires
     carry-out-requires
-    straighten-requires
+    restore-kinds-requires
     same-length
     same-length-2
     same-length-3

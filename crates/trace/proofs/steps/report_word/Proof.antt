@@ -1,4 +1,4 @@
-use Rattle.trace.proofs.ReportWays.{report-full, report-untold, report-told}
+use Rattle.trace.proofs.ReportWays.{report-full, report-unreported, report-told}
 use borrow.Author.Needs.{needs}
 use Rattle.trace.proofs.steps.report_word.Statement.{statement}
 use Rattle.trace.proofs.steps.report_word.Tie as tie
@@ -18,17 +18,17 @@ enum-told c = search needs
 enum-known-f : tie.Need-enum-known-f
 enum-known-f c = search needs
 
-slice-aggregate-lay : tie.Need-slice-aggregate-lay
-slice-aggregate-lay c = search needs
+slice-aggregate-paste : tie.Need-slice-aggregate-paste
+slice-aggregate-paste c = search needs
 
-lay-requires : tie.Need-lay-requires
-lay-requires c κs = (search needs, search needs)
+paste-requires : tie.Need-paste-requires
+paste-requires c κs = (search needs, search needs)
 
 reported-requires : tie.Need-reported-requires
 reported-requires c κs = search needs
 
 returns-2 : tie.Need-returns-2
-returns-2 c = search report-untold
+returns-2 c = search report-unreported
 
 same-length : tie.Need-same-length
 same-length c = search needs
@@ -45,8 +45,8 @@ report-word-spec =
     report-requires
     enum-told
     enum-known-f
-    slice-aggregate-lay
-    lay-requires
+    slice-aggregate-paste
+    paste-requires
     reported-requires
     returns-2
     same-length

@@ -1,7 +1,7 @@
 use borrow.Author.Needs.{needs}
 use Rattle.vigbuso.proofs.FaultSteps.{admits-book}
 use Rattle.vigbuso.proofs.DirectSteps.{has-size}
-use Rattle.vigbuso.proofs.PoolSteps.{admitted-asks, granted-is, granted-no}
+use Rattle.vigbuso.proofs.PoolSteps.{admitted-pre, granted-is, granted-no}
 use Rattle.vigbuso.proofs.pool_calls.granted_on.Statement.{statement}
 use Rattle.vigbuso.proofs.pool_calls.granted_on.Tie as tie
 
@@ -12,7 +12,7 @@ size-requires : tie.Need-size-requires
 size-requires c κs = search (has-size, admits-book)
 
 granted-requires : tie.Need-granted-requires
-granted-requires c κs = search admitted-asks
+granted-requires c κs = search admitted-pre
 
 returns : tie.Need-returns
 returns c = search granted-is

@@ -1,7 +1,7 @@
 use borrow.Author.Needs.{needs}
 use Rattle.vigbuso.proofs.FaultSteps.{class-book}
 use Rattle.vigbuso.proofs.DirectSteps.{has-size}
-use Rattle.vigbuso.proofs.PoolSteps.{pool-asks, alloc-unfit, alloc-goes}
+use Rattle.vigbuso.proofs.PoolSteps.{pool-pre, alloc-unfit, alloc-goes}
 use Rattle.vigbuso.proofs.pool_calls.vigbuso_alloc.Statement.{statement}
 use Rattle.vigbuso.proofs.pool_calls.vigbuso_alloc.Tie as tie
 
@@ -18,7 +18,7 @@ size-requires : tie.Need-size-requires
 size-requires c κs = search (has-size, class-book)
 
 alloc-requires : tie.Need-alloc-requires
-alloc-requires c κs = search pool-asks
+alloc-requires c κs = search pool-pre
 
 same-length-2 : tie.Need-same-length-2
 same-length-2 c = search needs

@@ -1,6 +1,6 @@
 use borrow.Author.Needs.{needs}
 use Rattle.vigbuso.proofs.DirectSteps.{has-size}
-use Rattle.vigbuso.proofs.PoolSteps.{class-unfit, book-fair, owner-asks, class-none, class-high, class-held}
+use Rattle.vigbuso.proofs.PoolSteps.{class-unfit, book-valid, owner-pre, class-none, class-high, class-held}
 use Rattle.vigbuso.proofs.pool_calls.vigbuso_class_of.Statement.{statement}
 use Rattle.vigbuso.proofs.pool_calls.vigbuso_class_of.Tie as tie
 
@@ -11,10 +11,10 @@ returns : tie.Need-returns
 returns c = search class-unfit
 
 size-requires : tie.Need-size-requires
-size-requires c κs = search (has-size, book-fair)
+size-requires c κs = search (has-size, book-valid)
 
 owner-at-requires : tie.Need-owner-at-requires
-owner-at-requires c κs = search owner-asks
+owner-at-requires c κs = search owner-pre
 
 returns-2 : tie.Need-returns-2
 returns-2 c = search class-none

@@ -1,5 +1,5 @@
 use borrow.Author.Needs.{needs}
-use Rattle.vigbuso.proofs.PoolSteps.{stock-asks, stocked-is, stocked-no}
+use Rattle.vigbuso.proofs.PoolSteps.{stock-pre, stocked-is, stocked-no}
 use Rattle.vigbuso.proofs.pool_calls.vigbuso_stocked.Statement.{statement}
 use Rattle.vigbuso.proofs.pool_calls.vigbuso_stocked.Tie as tie
 
@@ -7,7 +7,7 @@ is-admitted-requires : tie.Need-is-admitted-requires
 is-admitted-requires c κs = search needs
 
 stocked-requires : tie.Need-stocked-requires
-stocked-requires c κs = search stock-asks
+stocked-requires c κs = search stock-pre
 
 returns : tie.Need-returns
 returns c = search stocked-is

@@ -1,7 +1,7 @@
 use borrow.Author.Needs.{needs}
 use Rattle.vigbuso.proofs.FaultSteps.{class-book}
 use Rattle.vigbuso.proofs.DirectSteps.{has-size}
-use Rattle.vigbuso.proofs.PoolSteps.{pool-asks, trim-unfit, trim-goes}
+use Rattle.vigbuso.proofs.PoolSteps.{pool-pre, trim-unfit, trim-goes}
 use Rattle.vigbuso.proofs.pool_calls.vigbuso_trim.Statement.{statement}
 use Rattle.vigbuso.proofs.pool_calls.vigbuso_trim.Tie as tie
 
@@ -18,7 +18,7 @@ size-requires : tie.Need-size-requires
 size-requires c κs = search (has-size, class-book)
 
 trim-requires : tie.Need-trim-requires
-trim-requires c κs = search pool-asks
+trim-requires c κs = search pool-pre
 
 same-length-2 : tie.Need-same-length-2
 same-length-2 c = search needs

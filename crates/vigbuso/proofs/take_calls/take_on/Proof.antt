@@ -1,7 +1,7 @@
 use borrow.Author.Needs.{needs}
 use Rattle.vigbuso.proofs.FaultSteps.{class-book, id-fits}
 use Rattle.vigbuso.proofs.DirectSteps.{has-size}
-use Rattle.vigbuso.proofs.TakeSteps.{take-asks, take-goes, take-unfit}
+use Rattle.vigbuso.proofs.TakeSteps.{take-pre, take-goes, take-unfit}
 use Rattle.vigbuso.proofs.take_calls.take_on.Statement.{statement}
 use Rattle.vigbuso.proofs.take_calls.take_on.Tie as tie
 
@@ -10,4 +10,4 @@ take-on-spec =
     tie.close
     (tie.spec
     (λ c κs. search needs) (λ c. search needs) (λ c. search take-unfit) (λ c κs. search (has-size, class-book))
-    (λ c. search id-fits) (λ c κs. search take-asks) (λ c. search needs) (λ c. search needs) (λ c. search take-goes))
+    (λ c. search id-fits) (λ c κs. search take-pre) (λ c. search needs) (λ c. search needs) (λ c. search take-goes))

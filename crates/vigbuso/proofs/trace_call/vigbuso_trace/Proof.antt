@@ -1,5 +1,5 @@
 use Rattle.vigbuso.proofs.DirectSteps.{open-fits}
-use Rattle.vigbuso.proofs.TraceSteps.{trace-refused, trace-asks, trace-all, trace-stopped}
+use Rattle.vigbuso.proofs.TraceSteps.{trace-refused, trace-pre, trace-all, trace-stopped}
 use borrow.Author.Needs.{needs}
 use Rattle.vigbuso.proofs.trace_call.vigbuso_trace.Statement.{statement}
 use Rattle.vigbuso.proofs.trace_call.vigbuso_trace.Tie as tie
@@ -14,7 +14,7 @@ cast-run : tie.Need-cast-run
 cast-run c = search open-fits
 
 run-requires : tie.Need-run-requires
-run-requires c κs = search trace-asks
+run-requires c κs = search trace-pre
 
 same-length : tie.Need-same-length
 same-length c = search needs

@@ -1,0 +1,19 @@
+use Prim.Native.Nat.{_-_}
+use lib.ListN.{length}
+use Rattle.release.proofs.EverySteps.{EveryInv, every-starts, every-goes-on, every-stops, every-ends}
+use Rattle.chunks.specs.way.Marks.{pageClean}
+use borrow.Author.Needs.{needs}
+use Rattle.chunks.proofs.marks.pages_clean.Statement.{statement}
+use Rattle.chunks.proofs.marks.pages_clean.Tie as tie
+
+abbrev Inv-loop : tie.InvT-loop
+Inv-loop meta n c shape m chunks i₀ i = EveryInv (pageClean n meta c shape m) chunks i
+
+abbrev μ-loop : tie.MeasureT-loop
+μ-loop meta n c shape m chunks i₀ i = length chunks - i
+
+pub pages-clean-spec : {M : Type 1} → statement M
+pages-clean-spec =
+    tie.close
+    (tie.spec
+    Inv-loop μ-loop (λ c. search every-starts) (λ c. search needs) (λ c. search needs) (λ c κs. search needs) (λ c. search needs) (λ c. search needs) (λ c. search every-goes-on) (λ c. search every-stops) (λ c. search every-ends))

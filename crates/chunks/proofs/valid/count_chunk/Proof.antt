@@ -1,0 +1,10 @@
+use Rattle.chunks.proofs.ValidSteps.{with-destination-pre, count-one, count-none}
+use borrow.Author.Needs.{needs}
+use Rattle.chunks.proofs.valid.count_chunk.Statement.{statement}
+use Rattle.chunks.proofs.valid.count_chunk.Tie as tie
+
+pub count-chunk-spec : {M : Type 1} → statement M
+count-chunk-spec =
+    tie.close
+    (tie.spec
+    (λ c κs. search needs) (λ c κs. search needs) (λ c κs. search with-destination-pre) (λ c. search count-one) (λ c. search count-none))

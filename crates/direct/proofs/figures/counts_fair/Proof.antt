@@ -1,7 +1,0 @@
-use borrow.Author.Needs.{needs}
-use Rattle.direct.proofs.figures.counts_fair.Statement.{statement}
-use Rattle.direct.proofs.figures.counts_fair.Tie as tie
-use Rattle.direct.proofs.FigureSteps.{many-empty, counts-told}
-
-pub counts-fair-spec : {M : Type 1} → statement M
-counts-fair-spec = tie.close (tie.spec (λ c κs. search needs) (λ c. search many-empty) (λ c κs. search needs) (λ c. search counts-told))

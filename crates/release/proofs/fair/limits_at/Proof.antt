@@ -1,7 +1,0 @@
-use Rattle.release.proofs.FairSteps.{limits-there}
-use borrow.Author.Needs.{needs}
-use Rattle.release.proofs.fair.limits_at.Statement.{statement}
-use Rattle.release.proofs.fair.limits_at.Tie as tie
-
-pub limits-at-spec : {M : Type 1} → statement M
-limits-at-spec = tie.close (tie.spec (λ c κs. search needs) (λ c κs. search needs) (λ c. search limits-there))
