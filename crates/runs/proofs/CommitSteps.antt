@@ -1,5 +1,5 @@
 -- The ways out of a commit for an owner and of a growth, and what they ask of the steps.
-use Prim.Native.Nat.{ℕ, zero, suc, _+_, _-_, _≤_}
+use Prim.Native.Nat.{ℕ, zero, suc, _+_, _-_, _≤_, _^_}
 use native.Mathlib.Omega.{arith}
 use mathlib.Core.Bool.{Bool, true, false, cond, not, true≢false}
 use mathlib.Core.List.{List}
@@ -20,7 +20,7 @@ use Rattle.runs.specs.declared.Commit.the-variants.{Refused, Nothing}
 use Rattle.arena.specs.Load.{loadHole, loadHoles}
 use Rattle.runs.specs.way.Record.{recordOf, storeRecord}
 use Rattle.arena.specs.Valid.{recordValid}
-use Rattle.runs.specs.way.Plan.{planAs, planOf}
+use Rattle.runs.specs.way.Plan.{planAs, planOf, Searches}
 use Rattle.arena.specs.Calls.{commitRefused, commitFor}
 use Rattle.runs.specs.way.Act.{withState, endNone, endRun, settle, fromFrontier, holeDrawn, commitDrawn, nextState, commitPlanned, planned, commitRead, commitActs, growWith}
 use Rattle.runs.specs.way.Pre.{RecordIn, HoleIn, PlanIn, EndsIn, RequestIn, BookIn}
@@ -28,6 +28,8 @@ use Rattle.runs.specs.way.Found.{found, hasRun, Finds}
 use Rattle.runs.specs.Answer.{Answers}
 use Rattle.runs.proofs.Acts.{valid-record, planned-is, ends-of, commit-acts}
 use Rattle.runs.proofs.PlanLaws.{plan-fits}
+use Rattle.runs.proofs.Planning as Planning
+use Rattle.runs.proofs.Planning.{found-not, found-code}
 
 -- ---- the record that was loaded
 pub loaded-record : (n : ℕ) (b : List ℕ) (a : Arena) → recordValid n b ≡ true → a ≡ recordOf b → RecordIn n a
@@ -92,7 +94,7 @@ module _ (n : ℕ) (b : List ℕ) (m : ℕ) where
     pub commits-off : (h w : ℕ) → BookIn b n → not (p .valid) ≡ true → Answers (Refused 13) b (commitFor n b h m w)
     commits-off h w k t = rw (found-commits k h w, ← e, not-true (p .valid) t) (record { answer = refl; book = refl })
 
-    pub would-not : BookIn b n → not (p .valid) ≡ true → Finds false n b m
+    would-not : BookIn b n → not (p .valid) ≡ true → Finds false n b m
     would-not k t w = rw (found-commits k 15 w, ← e, not-true (p .valid) t)
 
     module _ (t : not (p .valid) ≡ false) (a : Arena) (f : a ≡ recordOf b) where
@@ -109,7 +111,7 @@ module _ (n : ℕ) (b : List ℕ) (m : ℕ) where
       pub found-record : RecordIn n a
       found-record = loaded-record n b a (found-valid .0) f
 
-      pub found-sum : BookIn b n → m ≤ maxPages + 1 → Fits w32 (a .frontier + m)
+      found-sum : BookIn b n → m ≤ maxPages + 1 → Fits w32 (a .frontier + m)
       found-sum k l = let z = found-record .moved in let y = k .small in record { fits = omega arith }
 
       pub found-request : (h d w : ℕ) → BookIn b n → m ≤ maxPages + 1 → d ≡ get b (arena held) → RequestIn b (record { size = n; pages = m; host = h; owner = w; held = d })
@@ -130,11 +132,45 @@ module _ (n : ℕ) (b : List ℕ) (m : ℕ) where
       would : BookIn b n → (w : ℕ) → hasRun (commitFor n b 15 m w) ≡ cond (eqb (a .state) 2) false (cond (eqb (p .code) 0) (leb (a .frontier + m) n) true)
       would k w = rw (found-commits k 15 w, ← e, valid, ← f) (planned-runs n b a (p .code) m w (get b (arena held)))
 
-      pub would-off : BookIn b n → a .state ≡ 2 → Finds false n b m
+      would-off : BookIn b n → a .state ≡ 2 → Finds false n b m
       would-off k u w = sym (would k w ∙ rw u)
 
-      pub would-fresh : BookIn b n → (a .state ≡ 2 → ⊥) → p .code ≡ 0 → Finds (leb (a .frontier + m) n) n b m
+      would-fresh : BookIn b n → (a .state ≡ 2 → ⊥) → p .code ≡ 0 → Finds (leb (a .frontier + m) n) n b m
       would-fresh k u v w = sym (would k w ∙ rw (ne-eqb (a .state) 2 u, v))
 
-      pub would-reuse : BookIn b n → (a .state ≡ 2 → ⊥) → (p .code ≡ 0 → ⊥) → Finds true n b m
+      would-reuse : BookIn b n → (a .state ≡ 2 → ⊥) → (p .code ≡ 0 → ⊥) → Finds true n b m
       would-reuse k u v w = sym (would k w ∙ rw (ne-eqb (a .state) 2 u, ne-eqb (p .code) 0 v))
+
+  -- the same by the search's code
+  module _ (t : Bool) (e : t ≡ recordValid n b) where
+    pub search-refused : BookIn b n → t ≡ false → Finds false n b m
+    search-refused k v = would-not (planAs false 0) (find-off t e v) k refl
+
+    module _ (v : t ≡ true) (a : Arena) (f : a ≡ recordOf b) (c : ℕ) (s : Searches (planOf (loadHoles b 0 (a .count)) (a .total) (a .frontier) m) c) where
+      abbrev choice : Choice
+      choice = planOf (loadHoles b 0 (a .count)) (a .total) (a .frontier) m
+
+      is-found : choice ≡ found n b m
+      is-found = find-on t e a choice v f refl
+
+      pub search-not : BookIn b n → c ≡ 2 ^ 32 → Finds false n b m
+      search-not k z = would-not choice is-found k (ap not (found-not choice c s z))
+
+      module _ (d : c ≡ 2 ^ 32 → ⊥) where
+        sound : not (choice .valid) ≡ false
+        sound = ap not (Planning.found-valid choice c s d)
+
+        same-code : choice .code ≡ c
+        same-code = sym (found-code choice c s d)
+
+        pub search-sum : BookIn b n → m ≤ maxPages + 1 → Fits w32 (a .frontier + m)
+        search-sum = found-sum choice is-found sound a f
+
+        pub search-off : BookIn b n → a .state ≡ 2 → Finds false n b m
+        search-off = would-off choice is-found sound a f
+
+        pub search-fresh : BookIn b n → (a .state ≡ 2 → ⊥) → c ≡ 0 → Finds (leb (a .frontier + m) n) n b m
+        search-fresh k u z = would-fresh choice is-found sound a f k u (same-code ∙ z)
+
+        pub search-reuse : BookIn b n → (a .state ≡ 2 → ⊥) → (c ≡ 0 → ⊥) → Finds true n b m
+        search-reuse k u z = would-reuse choice is-found sound a f k u (λ y. z (sym same-code ∙ y))

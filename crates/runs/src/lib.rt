@@ -75,23 +75,27 @@ fn find(meta: &[u32], size: u32, pages: u32) -> Choice
     }
 }
 
-// Would a commit answer a run, all being granted.
+// Would a commit answer a run, all being granted. It goes by the commit's search: as a second caller of `find` it would keep that out of the commit, and a
+// commit with ten holes would take twice its time.
 pub fn would_commit(meta: &[u32], size: u32, pages: u32) -> bool
     requires { ⌜ BookIn (now meta) size × (pages ≤ maxPages + 1) ⌝ }
     ensures { λ r. ⌜ Finds r size (now (meta .entry)) pages ⌝ }
 {
-    let p = find(meta, size, pages);
-    if !p.valid {
-        return false;
+    if load::record_valid(meta, size) {
+        let a = load::load_record(meta);
+        let code = plans::search(meta, a.count, a.total, a.frontier, pages);
+        if code == plans::INVALID {
+            return false;
+        }
+        if a.state == 2 {
+            return false;
+        }
+        if code == 0 {
+            return a.frontier + pages <= size;
+        }
+        return true;
     }
-    let a = load::load_record(meta);
-    if a.state == 2 {
-        return false;
-    }
-    if p.code == 0 {
-        return a.frontier + pages <= size;
-    }
-    true
+    false
 }
 
 // A run longer than any arena is asked for by one page more than that.
