@@ -1,4 +1,4 @@
--- Number 13's tests are the table of Specs/Ranges over the rows that the call reads. n is the arena's length, LENGTH of the book.
+-- Number 13's tests are the table of specs/Ranges over the rows that the call reads. n is the arena's length, LENGTH of the book.
 use Prim.Native.Nat.{ℕ, zero, suc, _+_, _-_, _/_, _≤_, min}
 use native.Mathlib.Omega.{arith}
 use native.Mathlib.Nat.{add-zero}

@@ -1,4 +1,4 @@
--- Number 13's tests look at no word but those of the rows that Specs/Reads lists, and LENGTH: two books that have the same words there
+-- Number 13's tests look at no word but those of the rows that specs/Reads lists, and LENGTH: two books that have the same words there
 -- pass or fail alike.
 use Prim.Native.Nat.{ℕ, zero, suc, _+_, _-_, _/_}
 use mathlib.Core.Bool.{Bool, true, false, cond, not, _&&_, _||_}

@@ -1,6 +1,6 @@
 -- What a caller sees of the exported functions, by their contracts alone (crates/vigbuso/src): on any book, any numbers and any list.
 --     Observes   a call of the exported function of that name, on the book b, returns and leaves what the reply says
---     InTurn     calls in turn, each on the book as the last one left it, and what is seen of them
+--     InTurn     calls in turn, each on the book as the last one left it, and what is observed of them
 -- r is what the function returns; a name with ′ is what a lent slice or an out-parameter holds afterwards.
 use Prim.Native.Nat.{ℕ}
 use mathlib.Core.Bool.{cond}

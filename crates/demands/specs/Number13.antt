@@ -1,4 +1,4 @@
--- Number 13 is one table: each test of the code is that every word which the call reads is in its range by Specs/Ranges, and, in a take,
+-- Number 13 is one table: each test of the code is that every word which the call reads is in its range by specs/Ranges, and, in a take,
 -- that each listed page which it comes to yields a block. For every book; n is LENGTH.
 --     takeValid   a take's test: the frontier, then its source, which is the partial list as far as the take goes, or the newest empty
 --                 page, or the newest cold one, or the arena

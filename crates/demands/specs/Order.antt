@@ -1,5 +1,5 @@
--- Document 02, A.8, as a statement about every history of calls on the words: the order of the holes shows in no answer, and how much a heap was
--- used in a report's three counts alone. That the hole which is taken has the lowest page is `Which`, in `Commits`, in Demand2.
+-- Document 02, A.8, as a statement about every history of calls on the words: the order of the holes shows in no answer, and the
+-- three counts in a report alone. That the hole which is taken has the lowest page is `Which`, in `Commits`, in Demand2.
 use mathlib.Core.List.{List, _++_, map}
 use mathlib.Core.Path.{_≡_}
 use Rattle.model.specs.Calls.{Call}

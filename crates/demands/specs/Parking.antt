@@ -72,7 +72,7 @@ pub record Parking (s : Start) : Type 0 where
   -- a medium one has 8 MiB, 128 pages, of empty spans beside it
   pub keptSpans : (c e k : ℕ) → 64 ≤ c → destinationOf (shapeOf c) (rules s c) e k ≡ goesTo (ltb e (rules s c .empty) && leb (suc e * shapeOf c .pages) 128) (ltb k (rules s c .cold))
   -- over the calls: a release by list that is not refused and has a block of the class's run at q answers 0 where it leaves a block of the run out by the
-  -- history; else the fate of where the run goes, by the row's limits and by how many empty and cold runs the class has
+  -- history; else the fate of where the run goes, by the row's limits and by how many empty and cold runs the model's class has
   pub fates : (xs : List Call) (x : Call) (c h q v : ℕ) (ws : List ℕ) → names x ≡ some (record { class = c; request = giveBack h ws }) → isRefused (next s xs x .answer) ≡ false
       → (let vs = events (pages s) (rules s) (calls s xs) in
       let k = heapAfter (pages s) (rules s) (calls s xs) .classes c in

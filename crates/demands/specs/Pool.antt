@@ -1,6 +1,6 @@
 -- The pool over the exported functions (docs/CALLS.md, "The pool"), as statements about every history from an opening: allocs, frees and trims of any
--- class, direct commits, growths and `release`s, `contains` and reports, refused ones included. All is told from calls and answers, and
--- from the book that a history leaves. proofs/PoolTheorems proves them.
+-- class, direct commits, growths and `release`s, `contains` and reports, refused ones included. Told from calls and answers, from the book that a
+-- history leaves, and, where the heap is spoken of, from the heap calls that the pool made. proofs/PoolTheorems proves them.
 --     poolCall         one call on any book, by the definitions that the exported functions' contracts cite
 --     poolRun          what is answered to the calls of a history; `poolBook` is the book that it leaves
 --     poolObserved     the calls with their answers, in the words of document 01's histories: an alloc is a take of one block, a free a release of one
@@ -88,7 +88,7 @@ pub record PoolAt (n : ℕ) (rows d : List ℕ) (vs : List Event) (made : List C
   -- the heap's calls that the history makes are a history of document 01's calls, of which none that names a class is refused (`heapPart` below: the heap's
   -- part of the book is what they leave)
   pub made-done : All (λ v. isSome (names (v .call)) ≡ true → isRefused (v .answer) ≡ false) (events n (rulesOf rows) made)
-  -- a call that is refused has number 3, 4, 9 or 10 (and leaves the book, as Specs/PoolRefusals says of every book); 13 never answers, a direct call neither
+  -- a call that is refused has number 3, 4, 9 or 10 (and leaves the book, as specs/PoolRefusals says of every book); 13 never answers, a direct call neither
   pub numbers : (c : ℕ) (x : PoolRequest) (k : ℕ) → poolOn d c x .answer ≡ refused k → elem k (3 ∷ 4 ∷ 9 ∷ 10 ∷ []) ≡ true
   pub valid : (y : Direct) → call d (callBy y) .code ≡ 13 → ⊥
   -- a block out at the heap is granted or in stock, and each of these once

@@ -1,4 +1,4 @@
--- What a caller sees of one call of the pool, and of calls in turn, by the contracts of the exported functions alone; Specs/Contracts has it of the heap's.
+-- What a caller sees of one call of the pool, and of calls in turn, by the contracts of the exported functions alone; specs/Contracts has it of the heap's.
 -- Assumes nothing.
 --     blockObserved    what is read from the number and the out-parameter of an alloc or a trim; `got` names a block
 --     freeObserved     from a free's number

@@ -1,4 +1,4 @@
--- Demand 1 for the pool's calls: the numbers that each can answer, in checking order, and whether each applies, as Specs/Refusals has them for
+-- Demand 1 for the pool's calls: the numbers that each can answer, in checking order, and whether each applies, as specs/Refusals has them for
 -- the others. Where a call goes on to the heap, the heap's own numbers are among them. b is the book, c a class's id, h the host word, w a block's.
 use Prim.Native.Nat.{ℕ, suc, _-_, _≤_, _<_}
 use mathlib.Core.Bool.{cond, not, _&&_, _||_}
@@ -92,7 +92,7 @@ pub record StockedAnswer (b : List ℕ) (c r : ℕ) : Type 0 where
   pub counted : firstNumber (stockedTable b c) ≡ 0 → r ≡ countIn b c
   pub none : (firstNumber (stockedTable b c) ≡ 0 → ⊥) → r ≡ 0
 
--- a class that the block is granted in is its page's, by OWNER; above all classes where the page has none, and on a book that 1 or 2 refuses
+-- `vigbuso_class_of`: the class that has the block's page, by OWNER; 76 where none has it, and on a book that 1 or 2 refuses
 pub record ClassAnswer (b : List ℕ) (w r : ℕ) : Type 0 where
   pub low : r ≤ classCount
   pub granted : (c : ℕ) → firstNumber (grantedTable b c w) ≡ 0 → r ≡ c

@@ -1,5 +1,5 @@
 -- Number 13's ranges, the one table of them; docs/RANGES.md prints `value` and `range`. A row is a word of the book in one use that a
--- call makes of it. Specs/Reads says which rows each call reads.
+-- call makes of it. specs/Reads says which rows each call reads.
 --     Use            a row: the word, and how a call uses it
 --     value          what the word holds
 --     range          its range in that use; every bound that is no argument of the row is read from the book

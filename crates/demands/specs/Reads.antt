@@ -1,4 +1,4 @@
--- The words that number 13 is about: for each kind of call the rows of Specs/Ranges that it reads, along the call's own way through the
+-- The words that number 13 is about: for each kind of call the rows of specs/Ranges that it reads, along the call's own way through the
 -- book. "Another book word that the call reads": those that numbers 1, 10 to 12 and 15 judge stand there.
 --     recordReads    the record, within the next four
 --     reportReads    a report

@@ -104,10 +104,10 @@ abbrev pub notHeld : ℕ → List ℕ → ℕ → ℕ → Bool
 notHeld n b q m = not (heldDirect n b q m)
 
 -- 13. "Another book word that the call reads is out of its range, or a listed page yields no block.": `strays` and `barren`, over the
--- rows that the call reads of the one table, Specs/Ranges. That the tests of the code are just these is Specs/Number13. The words of marks
+-- rows that the call reads of the one table, specs/Ranges. That the tests of the code are just these is specs/Number13. The words of marks
 -- (document 02, A.3) are tested "here before 15".
 
--- 16 (document 02, A.7): there is a word that stops the trace; Specs/Trace, `Reason`, says which words do
+-- 16 (document 02, A.7): there is a word that stops the trace; specs/Trace, `Reason`, says which words do
 abbrev pub stopped : ℕ → List ℕ → List ℕ → List ℕ → Bool
 stopped n ws bl fl = ltb (carried n (roomOf bl fl) ws) (length ws)
 

@@ -3,7 +3,7 @@
 --     word, part    its word, and which bits of the word
 --     get, put      the field's value in a book, and the book with another value there
 --     same          whether two fields are one: it computes at constructors, so that fields of different names differ by `refl`
---     ok            a class, hole, block and word of marks are within their rows; valid n: and the page is below n
+--     ok            a class, hole, block and word of marks are within their rows; inBook n: and the page is below n
 --     room          the value is one that the field can hold
 --     words         the words of a book
 -- A mark (document 02, A.3) is a bit of a page's words 144 to 271; its field is the whole word, 32 blocks' marks, since marks are cleared so.

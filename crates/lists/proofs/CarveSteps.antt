@@ -20,7 +20,7 @@ use Rattle.pages.specs.Carve.{stocked, carveAnew, bareBits, bareRun, newRun}
 use Rattle.pages.proofs.Descending.{length-descending}
 use Rattle.pages.proofs.Frames.{stocked-le}
 
--- ---- blocks laid on the stack
+-- ---- blocks pushed on the stack
 pub record StockInv (b₀ : List ℕ) (q k : ℕ) (b : List ℕ) (i : ℕ) : Type 0 where
   pub within : i ≤ k
   pub long : length b ≡ length b₀

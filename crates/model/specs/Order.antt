@@ -1,5 +1,4 @@
--- The order of the holes shows in no answer, and how much a heap was used shows in a report's three counts alone (document 02, A.8), as
--- statements.
+-- The order of the holes shows in no answer, and the three counts show in a report alone (document 02, A.8), as statements.
 use Prim.Native.Nat.{ℕ}
 use mathlib.Core.List.{List}
 use mathlib.Core.Bool.{Bool, cond, _&&_}

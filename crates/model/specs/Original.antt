@@ -1,7 +1,7 @@
 -- The heap by document 01's own hole store (specs/Remembered), and how far its answers are the model's. All that documents 01 and 02 say of classes,
 -- refusals and reports is the model's; only what is asked of the arena differs. No code reads this.
 --     step         one call by these rules: the heap, the memory, the answer, and what it did to the holes
---     Claimed      no given run that the total allows touches a hole, and each hole chosen is the lowest page: here equality is claimed
+--     Claimed      no given run that the total allows touches a hole, and each hole chosen has the lowest page of its length: here equality is claimed
 --     Equality     the answers are then the model's, call by call
 use Prim.Native.Nat.{ℕ, _+_, _-_, _≤_}
 use mathlib.Core.List.{List, [], _∷_, _++_}

@@ -91,6 +91,6 @@ pub record Turns (vs : List Event) (c : ℕ) (v : Event) : Type 0 where
   pub cold : (w : ℕ) → elem w (blocksOf (v .answer)) ≡ true → BlockOf IsCold vs c w ↔ ((Has IsPartial vs c → ⊥) × (Has IsEmpty vs c → ⊥) × Has IsCold vs c)
   -- where no run is partial, all blocks are one run's
   pub one : (Has IsPartial vs c → ⊥) → (w : ℕ) → elem w (blocksOf (v .answer)) ≡ true → OneRun (vs ++ v ∷ []) c (blocksOf (v .answer))
-  -- of a small class's runs with no block out it is the one that was released to last: "last in first out", "the newest cold page"
+  -- of a small class's empty runs, or of its cold ones, it is the one that was released to last: "last in first out", "the newest cold page"
   pub lastEmpty : isMedium (shapeOf c) ≡ false → (w : ℕ) → elem w (blocksOf (v .answer)) ≡ true → (b : BlockOf IsEmpty vs c w) (k : Has IsEmpty vs c) → (b .run ≡ k .run) ⊎ Later c (b .run) (k .run) vs
   pub lastCold : isMedium (shapeOf c) ≡ false → (w : ℕ) → elem w (blocksOf (v .answer)) ≡ true → (b : BlockOf IsCold vs c w) (k : Has IsCold vs c) → (b .run ≡ k .run) ⊎ Later c (b .run) (k .run) vs

@@ -1,6 +1,6 @@
 -- The runs of a class on the words. n is the arena's length, c a class's id, sh its shape, q a run's first page.
 --     whole     the run at q is the class's: every page of it says so and names q, and it ends at or below FRONTIER
---     claimed   the pages of a run are made to say so
+--     nameRun   the pages of a run are made to name its first page
 use Prim.Native.Nat.{ℕ, zero, suc, _+_}
 use mathlib.Core.Bool.{Bool, _&&_}
 use mathlib.Core.List.{List}

@@ -1,5 +1,5 @@
--- Blocks laid on a page's stack, and a run carved anew.
---     push-slots     the stack with a list laid on it
+-- Blocks pushed on a page's stack, and a run carved anew.
+--     push-slots     the stack with a list pushed on it
 --     anew-holds     a run that has no block out, carved anew
 --     carve-rep      it is the model's carved page
 use Prim.Native.Nat.{ℕ, suc, _+_, _≤_, _<_}
@@ -29,7 +29,7 @@ use Rattle.refinement.proofs.Basics.{Setting}
 use Rattle.refinement.proofs.Frames.{isData, ofClass, Only, marked-kept}
 use Rattle.refinement.proofs.Blocks.{fits, in-row, words-descending, count-descending-zero, every-counts}
 
--- ---- a list laid on a stack whose top stands below t₀
+-- ---- a list pushed on a stack whose top stands below t₀
 pub slots-under : (b b′ : List ℕ) (q : ℕ) (zs : List ℕ) → ((j : ℕ) → j < length zs → ltb j 4096 ≡ true → get b′ (slot q j) ≡ get b (slot q j)) → Slots b q zs → Slots b′ q zs
 slots-under b b′ q [] k s = tt
 slots-under b b′ q (z ∷ zs) k s = (k (length zs) (omega arith) (lt-ltb _ _ (s .1)) ∙ s .0, s .1, slots-under b b′ q zs (λ j l e. k j (omega arith) e) (s .2))

@@ -107,7 +107,7 @@ pub fn park_empty_page(meta: &mut [u32], c: u32, shape: Shape, host: u32, q: u32
     fate_of(shape, destination)
 }
 
-// The listed blocks, which are struck, come back to their page.
+// The listed blocks, whose out bits are cleared, come back to their page.
 fn release_inner(meta: &mut [u32], c: u32, shape: Shape, host: u32, q: u32, list: &[u64]) -> u32
     requires { ⌜ BackPre (now meta) c shape q (now list) ⌝ }
     ensures { λ r. ⌜ Parked r (now (meta .exit)) (settleAt (now (meta .entry)) c shape host q (map (indexOf shape q) (now (list .entry)))) ⌝ }

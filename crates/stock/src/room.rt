@@ -12,7 +12,7 @@ const STOCK_LIMIT: u32 = 255;
 
 const STOCK_GRANULES: u32 = 16_384;
 
-// Of the classes below this, with blocks up to 1,024 bytes, the most are in 256 KiB.
+// Classes below this have blocks of up to 1,024 bytes: STOCK_LIMIT of them fit 256 KiB.
 const LIMITED: u32 = 22;
 
 // No stock holds more: a place in it is 8 bits.

@@ -1,4 +1,4 @@
--- What laying blocks two at a time asks.
+-- What pushing blocks two at a time asks.
 use Prim.Native.Nat.{ℕ, _+_, _*_, _<_, _≤_}
 use mathlib.Core.Bool.{true}
 use mathlib.Core.List.{List}
