@@ -52,7 +52,7 @@ pub enum Call {
     Report,
     /// The pool's calls name a class by one number: small ones 0 to 63, medium ones 64 to 75.
     Pool {
-        wish: Wish,
+        request: PoolRequest,
         class: u32,
         host: u32,
     },
@@ -69,7 +69,7 @@ pub enum Look {
 
 /// What the pool is asked of a class.
 #[derive(Clone, Copy, PartialEq, Eq, Debug)]
-pub enum Wish {
+pub enum PoolRequest {
     Alloc,
     Free(Word),
     Trim,
@@ -188,9 +188,9 @@ impl Call {
             Call::Release { .. } => Kind::Release,
             Call::Contains { .. } => Kind::Contains,
             Call::Report => Kind::Report,
-            Call::Pool { wish: Wish::Alloc, .. } => Kind::Alloc,
-            Call::Pool { wish: Wish::Free(_), .. } => Kind::Free,
-            Call::Pool { wish: Wish::Trim, .. } => Kind::Trim,
+            Call::Pool { request: PoolRequest::Alloc, .. } => Kind::Alloc,
+            Call::Pool { request: PoolRequest::Free(_), .. } => Kind::Free,
+            Call::Pool { request: PoolRequest::Trim, .. } => Kind::Trim,
             Call::Look(Look::ClassOf(_)) => Kind::ClassOf,
             Call::Look(Look::Granted { .. }) => Kind::Granted,
             Call::Look(Look::Stocked { .. }) => Kind::Stocked,

@@ -22,7 +22,7 @@
 
 use std::fmt::Write;
 
-use crate::call::{Answer, Call, Due, Kind, Lent, Look, Wish};
+use crate::call::{Answer, Call, Due, Kind, Lent, Look, PoolRequest};
 use crate::words::{Family, FIGURES, NO_PAGE};
 
 #[derive(Clone, PartialEq, Eq, Debug)]
@@ -90,8 +90,8 @@ fn arguments(call: &Call) -> Vec<u64> {
         Call::Release { host, first, pages } => vec![u64::from(*host), *first, *pages],
         Call::Contains { offset, length } => vec![*offset, *length],
         Call::Report => Vec::new(),
-        Call::Pool { wish, class, host } => {
-            let block = if let Wish::Free(block) = wish { Some(*block) } else { None };
+        Call::Pool { request, class, host } => {
+            let block = if let PoolRequest::Free(block) = request { Some(*block) } else { None };
             [u64::from(*class), u64::from(*host)].into_iter().chain(block).collect()
         }
         Call::Look(Look::ClassOf(block)) => vec![*block],
@@ -225,12 +225,12 @@ fn parse_call(kind: Kind, from: &mut Numbers) -> Option<Call> {
         Kind::Report => Call::Report,
         Kind::Alloc | Kind::Free | Kind::Trim => {
             let (class, host) = (from.number()?, from.number()?);
-            let wish = match kind {
-                Kind::Alloc => Wish::Alloc,
-                Kind::Trim => Wish::Trim,
-                _ => Wish::Free(from.next()?),
+            let request = match kind {
+                Kind::Alloc => PoolRequest::Alloc,
+                Kind::Trim => PoolRequest::Trim,
+                _ => PoolRequest::Free(from.next()?),
             };
-            Call::Pool { wish, class, host }
+            Call::Pool { request, class, host }
         }
         Kind::ClassOf => Call::Look(Look::ClassOf(from.next()?)),
         Kind::Granted => Call::Look(Look::Granted { class: from.number()?, block: from.next()? }),
@@ -275,7 +275,7 @@ fn parse_answer(call: &Call, from: &mut Numbers) -> Option<Answer> {
             }
             Answer::Report(figures)
         }
-        Call::Pool { wish: Wish::Free(_), .. } => Answer::Freed,
+        Call::Pool { request: PoolRequest::Free(_), .. } => Answer::Freed,
         Call::Pool { .. } => Answer::Block(from.next()?),
         Call::Contains { .. } | Call::Look(_) => unreachable!("answered above"),
     })

@@ -5,7 +5,7 @@
 
 use std::collections::BTreeMap;
 
-use crate::call::{Answer, Call, Wish};
+use crate::call::{Answer, Call, PoolRequest};
 use crate::oracle;
 use crate::stocks::Stocks;
 use crate::words::{
@@ -132,10 +132,12 @@ impl Ledger {
                 self.hold((first + old) as u32, (new - old) as u32);
             }
             (Call::Release { first, pages, .. }, Answer::Released) => self.let_go(*first as u32, *pages as u32),
-            (Call::Pool { wish: Wish::Alloc, class, .. }, Answer::Block(word)) if *word != 0 => {
+            (Call::Pool { request: PoolRequest::Alloc, class, .. }, Answer::Block(word)) if *word != 0 => {
                 self.stocks.grant(*class, *word);
             }
-            (Call::Pool { wish: Wish::Free(word), class, .. }, Answer::Freed) => self.stocks.take_back(*class, *word),
+            (Call::Pool { request: PoolRequest::Free(word), class, .. }, Answer::Freed) => {
+                self.stocks.take_back(*class, *word)
+            }
             _ => {}
         }
     }
@@ -221,10 +223,10 @@ impl Ledger {
             Call::Release { host, first, pages } => {
                 first_of(&[(3, *host > HOST_ALL), (6, bad_run(*pages)), (12, !self.is_direct(*first, *pages))])
             }
-            Call::Pool { wish, class, host } => first_of(&[(3, *host > HOST_ALL), (4, *class >= CLASSES as u32)])
-                .or_else(|| match wish {
-                    Wish::Free(word) => self.stocks.refusal(*class, *word),
-                    Wish::Alloc | Wish::Trim => None,
+            Call::Pool { request, class, host } => first_of(&[(3, *host > HOST_ALL), (4, *class >= CLASSES as u32)])
+                .or_else(|| match request {
+                    PoolRequest::Free(word) => self.stocks.refusal(*class, *word),
+                    PoolRequest::Alloc | PoolRequest::Trim => None,
                 }),
             Call::Contains { .. } | Call::Report | Call::Look(_) => None,
         }

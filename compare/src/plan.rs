@@ -1,7 +1,7 @@
 //! A history before it is run: steps that say what is wanted, and find their arguments in the ledger when their turn
 //! comes. So a plan with some steps left out is again a plan of calls in document 01's domain.
 
-use crate::call::{Call, Lent, Look, Wish};
+use crate::call::{Call, Lent, Look, PoolRequest};
 use crate::ledger::{Ledger, Out};
 use crate::oracle;
 use crate::pool::wrong as wrong_pool;
@@ -146,7 +146,7 @@ impl Step {
             Intent::Contains => Some(contains(&mut random, ledger.pages())),
             Intent::Report => Some(Call::Report),
             Intent::Wrong { family, class } => Some(wrong(&mut random, ledger, family, class, host)),
-            Intent::Alloc { class } => Some(Call::Pool { wish: Wish::Alloc, class, host }),
+            Intent::Alloc { class } => Some(Call::Pool { request: PoolRequest::Alloc, class, host }),
             Intent::Free { class, which } => {
                 let granted = ledger.stocks.granted(class);
                 let word = match which {
@@ -154,12 +154,12 @@ impl Step {
                     Which::Oldest => granted.first().copied(),
                     Which::Any => (!granted.is_empty()).then(|| random.pick(granted)),
                 };
-                Some(Call::Pool { wish: Wish::Free(word?), class, host })
+                Some(Call::Pool { request: PoolRequest::Free(word?), class, host })
             }
             Intent::Trim { class } => {
                 // Seldom of an empty stock.
                 let asked = !ledger.stocks.stock(class).is_empty() || random.chance(1, 10);
-                asked.then_some(Call::Pool { wish: Wish::Trim, class, host })
+                asked.then_some(Call::Pool { request: PoolRequest::Trim, class, host })
             }
             Intent::Look { class } => Some(Call::Look(look(&mut random, ledger, class))),
             Intent::WrongPool { class } => Some(wrong_pool::call(&mut random, ledger, class, host)),

@@ -1,6 +1,6 @@
 //! The port, through the C boundary of CALLS.md.
 
-use crate::call::{Answer, Call, Lent, Look, Wish};
+use crate::call::{Answer, Call, Lent, Look, PoolRequest};
 use crate::memory::{Fence, Fenced, Plain};
 use crate::planned::Planned;
 use crate::words::{Family, Word, FIGURES, NO_PAGE};
@@ -247,12 +247,14 @@ pub fn ask(book: &mut [u32], room: &mut Room, call: &Call) -> Answer {
         Call::Release { host, first, pages } => release(book, *host, *first, *pages),
         Call::Contains { offset, length } => contains(book, *offset, *length),
         Call::Report => report(book),
-        Call::Pool { wish: Wish::Alloc, class, host } => one_block(plain_alloc(book, [*class, *host])),
-        Call::Pool { wish: Wish::Trim, class, host } => one_block(plain_trim(book, [*class, *host])),
-        Call::Pool { wish: Wish::Free(block), class, host } => match plain_free(book, [*class, *host], *block) {
-            0 => Answer::Freed,
-            number => refusal(number, true),
-        },
+        Call::Pool { request: PoolRequest::Alloc, class, host } => one_block(plain_alloc(book, [*class, *host])),
+        Call::Pool { request: PoolRequest::Trim, class, host } => one_block(plain_trim(book, [*class, *host])),
+        Call::Pool { request: PoolRequest::Free(block), class, host } => {
+            match plain_free(book, [*class, *host], *block) {
+                0 => Answer::Freed,
+                number => refusal(number, true),
+            }
+        }
         Call::Look(look) => Answer::Told(plain_look(book, *look)),
     }
 }

@@ -1,6 +1,6 @@
 //! One history on the original, with document 02's parts in it or without them: its answers, with the numbers of refused calls and the pages held from the ledger.
 
-use crate::call::{Answer, Call, Lent, Look, Wish};
+use crate::call::{Answer, Call, Lent, Look, PoolRequest};
 use crate::ledger::Ledger;
 use crate::oracle::rules::Rules;
 use crate::oracle::Original;
@@ -46,8 +46,8 @@ impl Reference {
     }
 
     fn ask(&mut self, call: &Call) -> Answer {
-        if let Call::Pool { wish, class, host } = *call {
-            return self.pool(wish, class, host);
+        if let Call::Pool { request, class, host } = *call {
+            return self.pool(request, class, host);
         }
         let original = &mut self.original;
         match call {
@@ -92,10 +92,10 @@ impl Reference {
     }
 
     /// The pool's calls, over the original's takes and releases. A free's block is granted in the class.
-    fn pool(&mut self, wish: Wish, class: u32, host: u32) -> Answer {
+    fn pool(&mut self, request: PoolRequest, class: u32, host: u32) -> Answer {
         self.heap = None;
-        match wish {
-            Wish::Alloc => match self.ledger.stocks.pop(class) {
+        match request {
+            PoolRequest::Alloc => match self.ledger.stocks.pop(class) {
                 Some(word) => Answer::Block(word),
                 None => {
                     let mut words = self.taken(class, host);
@@ -104,13 +104,13 @@ impl Reference {
                     Answer::Block(granted.unwrap_or(0))
                 }
             },
-            Wish::Free(word) => {
+            PoolRequest::Free(word) => {
                 if !self.ledger.stocks.push(class, word) {
                     self.give_back(class, host, word);
                 }
                 Answer::Freed
             }
-            Wish::Trim => match self.ledger.stocks.pop(class) {
+            PoolRequest::Trim => match self.ledger.stocks.pop(class) {
                 Some(word) => {
                     self.give_back(class, host, word);
                     Answer::Block(word)

@@ -2,7 +2,7 @@
 
 use std::sync::Mutex;
 
-use crate::call::{Answer, Call, Due, Lent, Look, Wish};
+use crate::call::{Answer, Call, Due, Lent, Look, PoolRequest};
 use crate::generate::{self, SCENARIOS};
 use crate::history::{self, History};
 use crate::ledger::Ledger;
@@ -196,15 +196,15 @@ fn shrinks_to_what_fails() {
 }
 
 fn alloc(class: u32) -> Call {
-    Call::Pool { wish: Wish::Alloc, class, host: HOST_ALL }
+    Call::Pool { request: PoolRequest::Alloc, class, host: HOST_ALL }
 }
 
 fn free(class: u32, block: Word) -> Call {
-    Call::Pool { wish: Wish::Free(block), class, host: HOST_ALL }
+    Call::Pool { request: PoolRequest::Free(block), class, host: HOST_ALL }
 }
 
 fn trim(class: u32) -> Call {
-    Call::Pool { wish: Wish::Trim, class, host: HOST_ALL }
+    Call::Pool { request: PoolRequest::Trim, class, host: HOST_ALL }
 }
 
 /// A page of class 45 has three blocks, which a take lists from the last: the first one is granted first.

@@ -2,7 +2,7 @@
 
 use std::collections::{BTreeMap, VecDeque};
 
-use crate::call::{Answer, Call, Kind, Lent, Look, Wish};
+use crate::call::{Answer, Call, Kind, Lent, Look, PoolRequest};
 use crate::oracle;
 use crate::planned::family;
 use crate::random::Random;
@@ -52,11 +52,11 @@ impl Known {
                 self.words.retain(|(_, _, word)| !list.contains(word));
             }
             (Call::Release { first, .. }, Answer::Released) => self.runs.retain(|run| run.0 != *first),
-            (Call::Pool { wish: Wish::Alloc, class, .. }, Answer::Block(word)) if *word != 0 => {
+            (Call::Pool { request: PoolRequest::Alloc, class, .. }, Answer::Block(word)) if *word != 0 => {
                 let (family, class) = family(*class);
                 self.words.push_back((family, class, *word));
             }
-            (Call::Pool { wish: Wish::Free(word), class, .. }, Answer::Freed) => {
+            (Call::Pool { request: PoolRequest::Free(word), class, .. }, Answer::Freed) => {
                 let (family, class) = family(*class);
                 self.words.retain(|(_, _, other)| other != word);
                 self.gone.push_back((family, class, *word));
@@ -102,11 +102,11 @@ impl Known {
                 Call::Contains { offset: random.word() % (bytes + 2), length: self.length(random).wrapping_mul(65_536) }
             }
             Kind::Report => Call::Report,
-            Kind::Alloc => Call::Pool { wish: Wish::Alloc, class: one_number(random, family, class), host },
-            Kind::Trim => Call::Pool { wish: Wish::Trim, class: one_number(random, family, class), host },
+            Kind::Alloc => Call::Pool { request: PoolRequest::Alloc, class: one_number(random, family, class), host },
+            Kind::Trim => Call::Pool { request: PoolRequest::Trim, class: one_number(random, family, class), host },
             Kind::Free => {
                 let block = self.block(random, family, class);
-                Call::Pool { wish: Wish::Free(block), class: one_number(random, family, class), host }
+                Call::Pool { request: PoolRequest::Free(block), class: one_number(random, family, class), host }
             }
             Kind::ClassOf => Call::Look(Look::ClassOf(self.block(random, family, class))),
             Kind::Granted => {

@@ -2,7 +2,7 @@
 
 use std::collections::BTreeMap;
 
-use crate::call::{Answer, Call, Wish};
+use crate::call::{Answer, Call, PoolRequest};
 use crate::ledger::Ledger;
 use crate::oracle;
 use crate::planned::family;
@@ -16,13 +16,15 @@ impl Apart {
     /// Takes in a call that was carried out; the ledger has it already. Says what shares a byte.
     pub fn note(&mut self, call: &Call, answer: &Answer, ledger: &Ledger) -> Result<(), String> {
         match (call, answer) {
-            (Call::Pool { wish: Wish::Alloc, class, .. }, Answer::Block(word)) if *word != 0 => {
+            (Call::Pool { request: PoolRequest::Alloc, class, .. }, Answer::Block(word)) if *word != 0 => {
                 self.grant(*class, *word, ledger)
             }
-            (Call::Pool { wish: Wish::Free(word), .. }, Answer::Freed) => match self.0.remove(&first_byte(*word)) {
-                Some(_) => Ok(()),
-                None => Err(format!("block {word} was freed and is not granted")),
-            },
+            (Call::Pool { request: PoolRequest::Free(word), .. }, Answer::Freed) => {
+                match self.0.remove(&first_byte(*word)) {
+                    Some(_) => Ok(()),
+                    None => Err(format!("block {word} was freed and is not granted")),
+                }
+            }
             (Call::Commit { pages, .. }, Answer::Run { first, .. }) => self.hold(u64::from(*first), *pages),
             (Call::Grow { first, old, new, .. }, Answer::Grown(true)) => self.hold(first + old, new - old),
             _ => Ok(()),

@@ -1,6 +1,6 @@
 //! What happened at a call of the pool: how a wrong free was wrong, and what the call made the heap do.
 
-use crate::call::{Answer, Call, Look, Wish};
+use crate::call::{Answer, Call, Look, PoolRequest};
 use crate::ledger::Ledger;
 use crate::planned::{family, CLASSES};
 use crate::reference::Reference;
@@ -8,7 +8,7 @@ use crate::words::{granule_of, kind_of, Word, CHUNK_KIND, PAGE_GRANULES};
 
 /// How a free that is refused as 9 or 10 is wrong, by the ledger before it.
 pub fn fault(ledger: &Ledger, call: &Call) -> Option<&'static str> {
-    let Call::Pool { wish: Wish::Free(word), class, .. } = *call else { return None };
+    let Call::Pool { request: PoolRequest::Free(word), class, .. } = *call else { return None };
     match ledger.refusal(call) {
         Some(9) if word == 0 => Some("wrong free: none"),
         Some(9) if kind_of(word) == CHUNK_KIND => Some("wrong free: a group's word"),
@@ -41,21 +41,21 @@ fn not_granted(ledger: &Ledger, class: u32, word: Word) -> &'static str {
 
 /// What a call that was carried out came to.
 pub fn happened(call: &Call, answer: &Answer, reference: &Reference) -> Option<&'static str> {
-    let Call::Pool { wish, .. } = call else { return None };
-    Some(match (wish, answer, &reference.heap) {
+    let Call::Pool { request, .. } = call else { return None };
+    Some(match (request, answer, &reference.heap) {
         (_, Answer::Refused(_), _) => return None,
-        (Wish::Alloc, Answer::Block(0), _) => return None,
-        (Wish::Alloc, _, None) => "alloc from the stock",
-        (Wish::Alloc, _, Some(Answer::Taken { words, .. })) if words.len() == 1 => "alloc by a take of just one",
-        (Wish::Alloc, ..) => "alloc that refills the stock",
-        (Wish::Free(_), _, None) => "free into the stock",
-        (Wish::Free(_), _, Some(Answer::Fate(2))) => "free, stock full: its page to the arena",
-        (Wish::Free(_), _, Some(Answer::Fate(1))) => "free, stock full: its page cold",
-        (Wish::Free(_), ..) => "free, stock full: its page kept",
-        (Wish::Trim, Answer::Block(0), _) => return None,
-        (Wish::Trim, _, Some(Answer::Fate(2))) => "trim: its page to the arena",
-        (Wish::Trim, _, Some(Answer::Fate(1))) => "trim: its page cold",
-        (Wish::Trim, ..) => "trim: its page kept",
+        (PoolRequest::Alloc, Answer::Block(0), _) => return None,
+        (PoolRequest::Alloc, _, None) => "alloc from the stock",
+        (PoolRequest::Alloc, _, Some(Answer::Taken { words, .. })) if words.len() == 1 => "alloc by a take of just one",
+        (PoolRequest::Alloc, ..) => "alloc that refills the stock",
+        (PoolRequest::Free(_), _, None) => "free into the stock",
+        (PoolRequest::Free(_), _, Some(Answer::Fate(2))) => "free, stock full: its page to the arena",
+        (PoolRequest::Free(_), _, Some(Answer::Fate(1))) => "free, stock full: its page cold",
+        (PoolRequest::Free(_), ..) => "free, stock full: its page kept",
+        (PoolRequest::Trim, Answer::Block(0), _) => return None,
+        (PoolRequest::Trim, _, Some(Answer::Fate(2))) => "trim: its page to the arena",
+        (PoolRequest::Trim, _, Some(Answer::Fate(1))) => "trim: its page cold",
+        (PoolRequest::Trim, ..) => "trim: its page kept",
     })
 }
 

@@ -14,7 +14,7 @@ use std::ops::Range;
 pub use self::apart::Apart;
 pub use self::scenarios::{plan, SCENARIOS};
 use crate::arguments::Arguments;
-use crate::call::{Answer, Call, Look, Wish};
+use crate::call::{Answer, Call, Look, PoolRequest};
 use crate::history::{self, History};
 use crate::ledger::{class_id, Ledger};
 use crate::memory::{Fence, Reserved};
@@ -179,7 +179,8 @@ fn beside_the_pool(plan: &Plan, call: &Call, ledger: &Ledger) -> bool {
             *class < family.classes() && of_pool(class_id(*family, *class))
         }
         Call::ReleaseChunks { class, .. } => of_pool(*class as usize),
-        Call::Pool { wish: Wish::Free(word), class, .. } | Call::Look(Look::Granted { class, block: word })
+        Call::Pool { request: PoolRequest::Free(word), class, .. }
+        | Call::Look(Look::Granted { class, block: word })
             if *class < CLASSES =>
         {
             let (family, number) = family(*class);

@@ -1,6 +1,6 @@
 //! Calls of the pool that are likely to be refused: wrong frees of every kind, host words and classes that there are not.
 
-use crate::call::{Call, Wish};
+use crate::call::{Call, PoolRequest};
 use crate::ledger::Ledger;
 use crate::oracle;
 use crate::planned::{family, CLASSES};
@@ -11,7 +11,7 @@ use crate::words::{
 
 pub fn call(random: &mut Random, ledger: &Ledger, class: u32, host: u32) -> Call {
     let word = any_block(random, ledger, class);
-    let wish = random.weighted(&[(8, Wish::Free(word)), (1, Wish::Alloc), (1, Wish::Trim)]);
+    let request = random.weighted(&[(8, PoolRequest::Free(word)), (1, PoolRequest::Alloc), (1, PoolRequest::Trim)]);
     let host = match random.below(12) {
         0 => random.between(16, 40) as u32,
         1 => random.word() as u32,
@@ -21,10 +21,10 @@ pub fn call(random: &mut Random, ledger: &Ledger, class: u32, host: u32) -> Call
         0 => CLASSES + random.below(4) as u32,
         1 => random.word() as u32,
         // The heap's own calls may be on any class but the pool's.
-        2 if wish == Wish::Free(word) => random.below(u64::from(CLASSES)) as u32,
+        2 if request == PoolRequest::Free(word) => random.below(u64::from(CLASSES)) as u32,
         _ => class,
     };
-    Call::Pool { wish, class, host }
+    Call::Pool { request, class, host }
 }
 
 /// A block that is granted in the class, or another word.
