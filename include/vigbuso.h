@@ -167,7 +167,7 @@ static inline const char *vigbuso_refusal_text(uint32_t number) {
     case 3:
         return "the host word exceeds 15";
     case 4:
-        return "the class is 64 or more, medium 12 or more";
+        return "the class is 64 or more, medium 12 or more, of the pool 76 or more";
     case 5:
         return "the list lent to a take is shorter than 64, medium than one span's blocks";
     case 6:

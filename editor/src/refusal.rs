@@ -54,7 +54,7 @@ refusals! {
     1 ArenaLength "the arena length, given at opening or stored as the book's first word, is 0 (an empty book reads so) or above 1,048,576"
     2 BookTooShort "the book is too short"
     3 HostWord "the host word exceeds 15"
-    4 Class "the class is 64 or more, medium 12 or more"
+    4 Class "the class is 64 or more, medium 12 or more, of the pool 76 or more"
     5 ListTooShort "the list lent to a take is shorter than 64, medium than one span's blocks"
     6 RunLength "a run has 0 pages or 2^48 or more, or growth isn't to more pages"
     7 EmptyList "the list of blocks or of chunks is empty"
