@@ -77,7 +77,7 @@ class Rule:
     model: list = field(default_factory=list)
     #: The crate that is checked.
     crate: str = "model"
-    #: Why no history can show it, if none can.
+    #: Why no history can show it, if none can, or none that is short enough to run.
     alike: str = ""
 
 
@@ -604,6 +604,354 @@ RULES = [
     Rule(
         "1,048,577 pages open",
         heap=[(WORDS, "MAX_PAGES: u32 = 1_048_576;", "MAX_PAGES: u32 = 1_048_577;")],
+    ),
+    # The statements told from the history (docs/MODEL.md, "Statements"): what is at hand, virgin, the reservation, the counts, the groups'
+    # runs and the sources.
+    Rule(
+        "free blocks of a carved page leave the list",
+        heap=[
+            (
+                "heap.rs",
+                at(12, "if *count >= REFILL_BATCH {", "    break;", "}"),
+                at(
+                    12,
+                    "if *count >= REFILL_BATCH {",
+                    "    if (*page).used as usize + (*page).free_count as usize >= (*page).capacity() {",
+                    "        unlink_partial(list, page);",
+                    "    }",
+                    "    break;",
+                    "}",
+                ),
+            )
+        ],
+        model=[
+            (
+                CLASS,
+                "stays sh p = hasMore sh p",
+                "stays sh p = cond (isMedium sh) (hasMore sh p) (hasMore sh (record { first = p .first; free = []; carved = p .carved; virgin = p .virgin; retired = p .retired }))",
+            )
+        ],
+    ),
+    Rule(
+        "a page with one block left leaves the list",
+        heap=[
+            (
+                "heap.rs",
+                at(12, "if *count >= REFILL_BATCH {", "    break;", "}"),
+                at(
+                    12,
+                    "if *count >= REFILL_BATCH {",
+                    "    if (*page).free_count == 1 && (*page).used as usize + 1 >= (*page).capacity() {",
+                    "        unlink_partial(list, page);",
+                    "    }",
+                    "    break;",
+                    "}",
+                ),
+            ),
+            (
+                "heap.rs",
+                at(16, "if (*span).free_count == 0 {", "    munlink_partial(list, span);"),
+                at(16, "if (*span).free_count == 0 || (*span).free_count == 1 && *count == cap {", "    munlink_partial(list, span);"),
+            ),
+        ],
+        model=[
+            (
+                CLASS,
+                "stays sh p = hasMore sh p",
+                "stays sh p = hasMore sh (record { first = p .first; free = drop 1 (p .free); carved = p .carved; virgin = p .virgin; retired = p .retired })",
+            )
+        ],
+    ),
+    Rule(
+        "a group release keeps virgin on a page with more to yield",
+        heap=[
+            (
+                "heap.rs",
+                at(
+                    16,
+                    "} else {",
+                    "    release_inner(",
+                    "        &mut list,",
+                    "        g.page,",
+                    "        g.head,",
+                    "        g.tail,",
+                    "        g.n & !PAGE_RELEASE_RETIRED,",
+                    "    )",
+                    "};",
+                ),
+                at(
+                    16,
+                    "} else {",
+                    "    let listed = (*g.page).flags & FLAG_IN_PARTIAL != 0;",
+                    "    let virgin = (*g.page).flags & FLAG_VIRGIN;",
+                    "    let fate = release_inner(&mut list, g.page, g.head, g.tail, g.n & !PAGE_RELEASE_RETIRED);",
+                    "    if listed {",
+                    "        (*g.page).flags |= virgin;",
+                    "    }",
+                    "    fate",
+                    "};",
+                ),
+            )
+        ],
+        model=[
+            (RELEASE, "{Bool, false, cond, not}", "{Bool, false, cond, not, _&&_}"),
+            (RELEASE, "{Page, isOut, noneOut, returned, retire}", "{Page, isOut, noneOut, hasMore, returned, retire}"),
+            (
+                RELEASE,
+                "(record { class = x .with (returned ws (x .page)); fate",
+                "(record { class = x .with (record { first = x .page .first; free = ws ++ x .page .free; carved = x .page .carved; "
+                "virgin = retires && (hasMore sh (x .page) && x .page .virgin); retired = false }); fate",
+            ),
+        ],
+    ),
+    Rule(
+        "a commit longer than the arena does not ask",
+        heap=[
+            (
+                "arena.rs",
+                at(8, "if !self.ensure_init() {", "    return (ptr::null_mut(), false);"),
+                at(8, "if len > self.size || !self.ensure_init() {", "    return (ptr::null_mut(), false);"),
+            )
+        ],
+        model=[
+            (
+                ARENA,
+                "commitAs size h n a unasked = cond (reservationGranted h)",
+                "commitAs size h n a unasked = cond (ltb size n) (given a none false) (cond (reservationGranted h)",
+            ),
+            (ARENA, "(given (withStatus disabled a) none false)", "(given (withStatus disabled a) none false))"),
+        ],
+    ),
+    Rule(
+        "a take that is refused the reservation leaves it to be asked for again",
+        heap=[
+            ("heap.rs", "let (base, fresh) = crate::arena::commit(pages);", "let (base, fresh) = crate::arena::commit_for_take(pages);"),
+            (
+                "arena.rs",
+                "/// Membership test for the unmap-vs-return decision.\n",
+                at(
+                    0,
+                    "pub(crate) unsafe fn commit_for_take(pages: usize) -> (*mut u8, bool) {",
+                    "    let unasked = ARENA.state.load(Ordering::Acquire) == 0;",
+                    "    let given = ARENA.commit(pages);",
+                    "    if unasked && ARENA.state.load(Ordering::Acquire) == 2 {",
+                    "        ARENA.state.store(0, Ordering::Release);",
+                    "    }",
+                    "    given",
+                    "}",
+                    "",
+                ),
+            ),
+        ],
+        model=[
+            (HEAP, "use Rattle.model.specs.Arena as Arenas\n", "use Rattle.words.specs.Host.{reservationGranted}\nuse Rattle.model.specs.Arena as Arenas\n"),
+            (
+                HEAP,
+                "offer size h a (asks n k) = Arenas.commit size h n a",
+                "offer size h a (asks n k) = cond (reservationGranted h || Arenas.isReady (a .status)) (Arenas.commit size h n a) (given a none false)",
+            ),
+        ],
+    ),
+    Rule(
+        "`contains` goes up to the frontier",
+        heap=[("arena.rs", "start <= b && top <= end && b >= start", "start <= b && top <= start + self.bump.load(Ordering::Relaxed)")],
+        model=[(ARENA, "leb (o + b) (size * pageBytes))", "leb (o + b) (a .frontier * pageBytes))")],
+    ),
+    Rule(
+        "a growth is no commit",
+        heap=[
+            (
+                "arena.rs",
+                at(8, "if self.commit_range(added_base as usize, new_len - old_len) {", "    self.commits.fetch_add(1, Ordering::Relaxed);"),
+                at(8, "if self.commit_range(added_base as usize, new_len - old_len) {"),
+            )
+        ],
+        model=[(ARENA, "grown (counted true b) true", "grown b true")],
+    ),
+    Rule(
+        "the counts are kept modulo 2 to the 32nd",
+        alike="in a history of fewer than 2 to the 32nd commits; the row and the book's words hold it",
+        heap=[
+            ("arena.rs", f"self.{count}.load(Ordering::Relaxed) as u64", f"self.{count}.load(Ordering::Relaxed) as u32 as u64")
+            for count in ("commits", "reuses", "abandoned")
+        ],
+        model=[(ARENA, "more n = (n + 1) % 2 ^ 64", "more n = (n + 1) % 2 ^ 32")],
+    ),
+    Rule(
+        "groups give their runs in reverse order",
+        heap=[
+            (
+                "heap.rs",
+                at(
+                    8,
+                    "for (g, slot) in chunks.iter().zip(fate_storage.iter_mut()) {",
+                    "    // Safe: every `0..chunks.len()` slot was written just above,",
+                    "    // under the same iteration bound.",
+                    "    let fate = unsafe { slot.assume_init() };",
+                    "    act_page_fate(g.page, fate);",
+                    "}",
+                ),
+                at(
+                    8,
+                    "for (g, slot) in chunks.iter().zip(fate_storage.iter_mut()).rev() {",
+                    "    if let PageFate::Unmap = slot.assume_init() {",
+                    "        crate::arena::release(g.page.cast::<u8>(), 1);",
+                    "    }",
+                    "}",
+                    "for (_, slot) in chunks.iter().zip(fate_storage.iter_mut()) {",
+                    "    super::super::fates::push(match slot.assume_init() {",
+                    "        PageFate::Keep => 0,",
+                    "        PageFate::Cold => 1,",
+                    "        PageFate::Unmap => 2,",
+                    "    });",
+                    "}",
+                ),
+            )
+        ],
+        model=[(CHUNKS, "gives = b .gives ++ r .gives", "gives = r .gives ++ b .gives")],
+    ),
+    Rule(
+        "groups' fates stand in reverse order",
+        heap=[
+            (
+                "compare/src/oracle/mod.rs",
+                "made.chunks.iter().zip(fates).map(|(chunk, fate)| if retired(chunk) { fate + 4 } else { fate }).collect()",
+                "made.chunks.iter().zip(fates).map(|(chunk, fate)| if retired(chunk) { fate + 4 } else { fate }).rev().collect()",
+            )
+        ],
+        model=[(CHUNKS, "fates = b .fate ∷ r .fates;", "fates = r .fates ++ b .fate ∷ [];")],
+    ),
+    Rule(
+        "an empty page comes before the partial ones",
+        heap=[
+            (
+                "heap.rs",
+                at(
+                    12,
+                    "let mut list = self.classes[class].lock();",
+                    "fill_from_list(&mut list.head, &mut chain, &mut count, &mut virgin);",
+                ),
+                at(
+                    12,
+                    "let mut list = self.classes[class].lock();",
+                    "if list.empty.is_null() {",
+                    "    fill_from_list(&mut list.head, &mut chain, &mut count, &mut virgin);",
+                    "}",
+                ),
+            ),
+            (
+                "heap.rs",
+                at(
+                    12,
+                    "let mut list = self.classes[mclass].lock();",
+                    "mfill_from_list(",
+                    "    &mut list.head,",
+                    "    &mut chain,",
+                    "    &mut count,",
+                    "    &mut virgin,",
+                    "    refill_cap,",
+                ),
+                at(
+                    12,
+                    "let mut list = self.classes[mclass].lock();",
+                    "let none_empty = list.empty.is_null();",
+                    "mfill_from_list(",
+                    "    &mut list.head,",
+                    "    &mut chain,",
+                    "    &mut count,",
+                    "    &mut virgin,",
+                    "    if none_empty { refill_cap } else { 0 },",
+                ),
+            ),
+        ],
+        model=[
+            (
+                CLASS,
+                "takeFrom sh l (p ∷ ps) es cs fs = done (served l (fillFromList sh (sh .batch) (p ∷ ps)) es cs fs)",
+                "takeFrom sh l ps (e ∷ es) cs fs = done (served l (fillFromList sh (sh .batch) (reused sh e ∷ ps)) es cs fs)",
+            ),
+            (
+                CLASS,
+                "takeFrom sh l [] (e ∷ es) cs fs = done (served l (fillFromList sh (sh .batch) (reused sh e ∷ [])) es cs fs)",
+                "takeFrom sh l (p ∷ ps) [] cs fs = done (served l (fillFromList sh (sh .batch) (p ∷ ps)) [] cs fs)",
+            ),
+        ],
+    ),
+    Rule(
+        "a cold page comes before the empty ones",
+        heap=[
+            (
+                "heap.rs",
+                at(12, "if count == 0 && !list.empty.is_null() {", "    // Recycle"),
+                at(12, "if count == 0 && list.cold_len == 0 && !list.empty.is_null() {", "    // Recycle"),
+            ),
+            (
+                "heap.rs",
+                at(12, "    refill_cap,", ");") + "\n\n" + at(12, "if count == 0 && !list.empty.is_null() {"),
+                at(12, "    refill_cap,", ");") + "\n\n" + at(12, "if count == 0 && list.cold_len == 0 && !list.empty.is_null() {"),
+            ),
+        ],
+        model=[
+            (
+                CLASS,
+                "takeFrom sh l [] (e ∷ es) cs fs = done (served l (fillFromList sh (sh .batch) (reused sh e ∷ [])) es cs fs)",
+                "takeFrom sh l [] es (c ∷ cs) fs = done (served l (fillFromList sh (sh .batch) (thawed sh c ∷ [])) es cs fs)",
+            ),
+            (
+                CLASS,
+                "takeFrom sh l [] [] (c ∷ cs) fs = done (served l (fillFromList sh (sh .batch) (thawed sh c ∷ [])) [] cs fs)",
+                "takeFrom sh l [] (e ∷ es) [] fs = done (served l (fillFromList sh (sh .batch) (reused sh e ∷ [])) es [] fs)",
+            ),
+        ],
+    ),
+    Rule(
+        "an empty page comes after partial ones that did not fill the list",
+        heap=[
+            (
+                "heap.rs",
+                at(12, "if count == 0 && !list.empty.is_null() {", "    // Recycle"),
+                at(12, "if count < REFILL_BATCH && !list.empty.is_null() {", "    // Recycle"),
+            ),
+            (
+                "heap.rs",
+                at(12, "    refill_cap,", ");") + "\n\n" + at(12, "if count == 0 && !list.empty.is_null() {"),
+                at(12, "    refill_cap,", ");") + "\n\n" + at(12, "if count < refill_cap && !list.empty.is_null() {"),
+            ),
+        ],
+        model=[
+            (CLASS, "use lib.Dec.{eqb}", "use lib.Dec.{eqb, ltb}"),
+            (
+                CLASS,
+                "takeFrom sh l (p ∷ ps) es cs fs = done (served l (fillFromList sh (sh .batch) (p ∷ ps)) es cs fs)\n",
+                "takeFrom sh l (p ∷ ps) [] cs fs = done (served l (fillFromList sh (sh .batch) (p ∷ ps)) [] cs fs)\n"
+                "takeFrom sh l (p ∷ ps) (e ∷ es) cs fs =\n"
+                "    cond (ltb (length (fillFromList sh (sh .batch) (p ∷ ps) .blocks)) (sh .batch))\n"
+                "    (done (served l (fillFromList sh (sh .batch) ((p ∷ ps) ++ reused sh e ∷ [])) es cs fs))\n"
+                "    (done (served l (fillFromList sh (sh .batch) (p ∷ ps)) (e ∷ es) cs fs))\n",
+            ),
+        ],
+    ),
+    Rule(
+        "an ungranted run from the frontier is lost",
+        heap=[
+            (
+                "arena.rs",
+                at(20, "self.holes_give(base as *mut u8, pages);", "return (ptr::null_mut(), false);"),
+                at(20, "return (ptr::null_mut(), false);"),
+            )
+        ],
+        model=[(ARENA, "(given (give n q a) none false)", "(given (cond f a (give n q a)) none false)")],
+    ),
+    Rule(
+        "after an ungranted growth the frontier goes back",
+        heap=[
+            (
+                "arena.rs",
+                "self.holes_give(added_base, new_pages - old_pages);",
+                "self.bump.store(old_end, Ordering::Release);",
+            )
+        ],
+        model=[(ARENA, "(grown (give n e b) false)", "(grown a false)")],
     ),
     # What a word may hold shows in no history: the table of ranges has it, and editor/tests/boundaries/ranges.rs.
     Rule("VIRGIN up to 7", model=[(RANGES, "(virginFlag p) = upTo 1", "(virginFlag p) = upTo 7")], crate="demands"),
