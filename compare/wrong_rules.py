@@ -222,6 +222,10 @@ RULES = [
     Rule(
         "rows give no more than document 01's limits",
         heap=[("compare/src/oracle/limits.rs", "given => given as usize,", "given => own.min(given as usize),")],
+        model=[
+            (DESTINATION, "{ℕ, suc, _+_, _*_}", "{ℕ, suc, _+_, _*_, min}"),
+            (DESTINATION, "ltb e (lim .empty) &&", "ltb e (min (lim .empty) (cond (isMedium sh) 32 4)) &&"),
+        ],
     ),
     Rule(
         "a row's two limits are exchanged",
@@ -493,6 +497,25 @@ RULES = [
                 HOLES,
                 "removeAt i hs = setAt i (lastHole hs) (withoutLast hs)",
                 "removeAt i [] = []\nremoveAt zero (h ∷ hs) = hs\nremoveAt (suc i) (h ∷ hs) = h ∷ removeAt i hs",
+            )
+        ],
+    ),
+    Rule(
+        "a cut hole goes to the end",
+        alike="the order of the holes shows in no answer (`orderless`); the row and the book's words hold it",
+        heap=[
+            (
+                OURS,
+                "holes.entries[i] = (off + pages * ARENA_ALIGN, length - pages);",
+                "let last = holes.len - 1;\n            holes.entries[i] = holes.entries[last];\n"
+                "            holes.entries[last] = (off + pages * ARENA_ALIGN, length - pages);",
+            )
+        ],
+        model=[
+            (
+                HOLES,
+                "(store (setAt i (hole (x .first + n) (x .pages - n)) (s .holes)) (s .total - n))",
+                "(store (removeAt i (s .holes) ++ hole (x .first + n) (x .pages - n) ∷ []) (s .total - n))",
             )
         ],
     ),
@@ -770,7 +793,7 @@ RULES = [
     ),
     Rule(
         "the counts are kept modulo 2 to the 32nd",
-        alike="in a history of fewer than 2 to the 32nd commits; the row and the book's words hold it",
+        alike="in a history of fewer than 2 to the 32nd commits; the book's words hold it",
         heap=[
             ("arena.rs", f"self.{count}.load(Ordering::Relaxed) as u64", f"self.{count}.load(Ordering::Relaxed) as u32 as u64")
             for count in ("commits", "reuses", "abandoned")
