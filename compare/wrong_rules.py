@@ -8,7 +8,7 @@ of RULES is tried in two ways:
             histories of crates/replay/stdin and the tests of editor/tests/boundaries
     model   the rule's definition is changed in a copy of the crates, and `rt dev CRATE` checks the crate's theorems and
             examples. A proof that follows the old definition's shape may fail too, so only what is stated otherwise counts:
-            docs/DEMANDS.md says which that is.
+            docs/DEMANDS.md says which that is. For some the statement is proved false of the changed definition
 
     compare/wrong_rules.py [--heap | --model] [--work FOLDER] [--stored FILE] [WORD ..]
 
@@ -38,6 +38,7 @@ HEAP = "crates/model/specs/Heap.antt"
 HOLES = "crates/model/specs/HoleStore.antt"
 OURS = "compare/seams/arena.rs"
 PAGE = "crates/model/specs/Page.antt"
+PROOFS = "crates/model/proofs"
 RELEASE = "crates/model/specs/Release.antt"
 DESTINATION = "crates/model/specs/Destination.antt"
 LEDGER = "compare/src/ledger.rs"
@@ -77,8 +78,205 @@ class Rule:
     model: list = field(default_factory=list)
     #: The crate that is checked.
     crate: str = "model"
+    #: A statement, and a proof `denied` that it is false of these definitions.
+    denied: tuple = ()
     #: Why no history can show it, if none can, or none that is short enough to run.
     alike: str = ""
+
+
+# What the proofs of `denied` begin with; `control` is refused whatever the definitions are.
+DENIED = """use Prim.Native.Nat.{ℕ}
+use mathlib.Core.Path.{_≡_, refl, sym, ap}
+use mathlib.Core.List.{List, [], _∷_, _++_}
+use mathlib.Core.Option.{none}
+use mathlib.Core.Logic.{inl}
+use mathlib.Core.Bool.{Bool, true, false, true≢false, false≢true}
+use native.Mathlib.Omega.{arith}
+use lib.Dec.{eqb}
+use lib.ListN.{getD}
+use borrow.Author.Tests.{eqb-true}
+use Rattle.facts.specs.Lists.{total}
+use Rattle.facts.proofs.Bools.{by-cases}
+use Rattle.words.specs.Word.{chunkWord}
+use Rattle.classes.specs.Sizes.{smallSizes, mediumSizes}
+use Rattle.classes.specs.Shape.{smallShape, mediumShape, shapeOf}
+use Rattle.rules.specs.Rules.{limits, plainRules}
+use Rattle.model.specs.Calls as Calls
+use Rattle.model.specs.Calls.{Call, Answer, takeBlocks, releaseBlocks, releaseBinChunks, commit, growFrontier}
+use Rattle.model.specs.HoleStore as Holes
+use Rattle.model.specs.Arena as Arenas
+use Rattle.model.specs.Arena.{Status, unasked, ready, disabled}
+use Rattle.model.specs.Page as Pages
+use Rattle.model.specs.Page.{Page}
+use Rattle.model.specs.Class as Classes
+use Rattle.model.specs.Class.{lists}
+use Rattle.model.specs.Destination as Destinations
+use Rattle.model.specs.Release as Releases
+use Rattle.model.specs.Chunks as Chunks
+use Rattle.model.specs.Heap as Heaps
+use Rattle.model.specs.History.{Event, events, withCall, heapAfter}
+use Rattle.model.specs.Entries.{OutIn}
+use Rattle.model.specs.Reservation.{Reserved}
+use Rattle.model.specs.Counted.{Counted}
+use Rattle.model.specs.Groups.{GroupsGive}
+use Rattle.model.specs.Offered as Told
+use Rattle.model.specs.Offered.{CleanBlock, gets, yieldsUp, renews, touches}
+use Rattle.model.specs.Demands.{Offered, Virgins}
+use Rattle.model.specs.Examples.{smalls, rising, lent}
+use Rattle.model.proofs.Since.{sinceFrom, observed}
+use Rattle.model.proofs.Fold.{liveFrom, live-in}
+use Rattle.model.proofs.EntryCounts.{is, is-self, in-total}
+
+control : true ≡ false
+control = refl
+
+-- 71 blocks to a page
+abbrev take21 : Call
+take21 = takeBlocks 21 15 (lent 64)
+
+abbrev unaskedYet : Status → Bool
+unaskedYet unasked = true
+unaskedYet ready = false
+unaskedYet disabled = false
+
+abbrev isContained : Answer → Bool
+isContained (Calls.refused n) = false
+isContained (Calls.taken n l v) = false
+isContained (Calls.fate n) = false
+isContained (Calls.fates l) = false
+isContained (Calls.run q f) = false
+isContained Calls.noRun = false
+isContained Calls.released = false
+isContained (Calls.grown b) = false
+isContained (Calls.contained b) = b
+isContained (Calls.reported f) = false
+
+"""
+# What they unfold.
+UNFOLDING = (
+    "unfolding smallSizes mediumSizes smallShape mediumShape shapeOf plainRules Told.hasBlock Told.fated Calls.wayOf"
+    " Holes.{leastFit cutFrom lowestThat place insert accepts}"
+    " Arenas.{give drawFrom draw grant commitReady commitAs commit grow contains}"
+    " Pages.{wordOf carveAs carvedWords isOut noneOut hasMore carvedNow pop returned retire reused}"
+    " Classes.{after fillFromList served thawed onRun takeFrom} Destinations.{destinationOf}"
+    " Releases.{find inPartial inFull locate park settle ofKind outHere repeats onPage releaseList}"
+    " Chunks.{blocksOn chunkFits chunked settleChunk settleChunks releaseChunks answer}"
+    " Heaps.{newHeap offer finish interact classCall heldDirect badRun parkedPages commitCall growCall releaseCall directCall step}"
+)
+UNFOLDING = re.sub(r"(\w+)\.\{([^}]*)\}", lambda m: " ".join(f"{m[1]}.{name}" for name in m[2].split()), UNFOLDING)
+
+
+def not_offered(last):
+    """Of one page's 71 blocks all are taken, and 1 to `last` released; 64 are taken, and block 65 is left."""
+    return (
+        "Offered",
+        f"""
+abbrev xs : List Call
+xs = take21 ∷ take21 ∷ releaseBlocks 21 15 (smalls (rising 60 57 {last})) ∷ take21 ∷ []
+
+abbrev vs : List Event
+vs = events 1 plainRules xs
+
+abbrev w : ℕ
+w = {(1 << 62) + 3 + 57 * 65}
+
+none-live : total (is 21 w) (liveFrom 0 [] vs) ≡ 0
+UNFOLDING
+none-live = refl
+
+not-out : OutIn vs 21 w → ⊥
+not-out o =
+    let e = o .entry in
+    let m = in-total (is 21 w) e (liveFrom 0 [] vs) (live-in 0 e [] vs (o .live)) in
+    let one : is 21 w e ≡ 1 = rw (← o .class, ← o .word) (is-self e) in
+    absurd (omega (arith, none-live))
+
+denied : Offered 1 plainRules xs → ⊥
+UNFOLDING
+denied o = not-out (o .spent 21 .1 (record {{ partial = refl; empty = refl; cold = refl }}) .full 0 (inl (refl, refl)) w refl)
+""",
+    )
+
+
+NOT_VIRGIN = (
+    "Virgins",
+    f"""
+abbrev xs : List Call
+xs = take21 ∷ releaseBinChunks 21 15 (smalls (3 ∷ 60 ∷ 117 ∷ [])) (chunkWord 3 0 ∷ []) (9 ∷ []) ∷ []
+
+abbrev vs : List Event
+vs = withCall 4 plainRules xs take21
+
+at-zero : (q : ℕ) → sinceFrom (gets 21 q) (yieldsUp 21 q) false vs ≡ true → eqb 0 q ≡ true
+UNFOLDING
+at-zero q e = by-cases (eqb 0 q) (λ a. a) (λ a. absurd (false≢true (rw a at e)))
+
+not-clean : sinceFrom (renews 21 0) (touches 21 0) false vs ≡ true → ⊥
+UNFOLDING
+not-clean e = false≢true e
+
+no-clean : (w : ℕ) → CleanBlock vs 21 w → ⊥
+no-clean w b =
+    let z : 0 ≡ b .run = eqb-true 0 (b .run) (at-zero (b .run) (observed (gets 21 (b .run)) (yieldsUp 21 (b .run)) vs (b .has))) in
+    not-clean (rw (sym z) at (observed (renews 21 (b .run)) (touches 21 (b .run)) vs (b .clean)))
+
+denied : Virgins 4 plainRules xs → ⊥
+UNFOLDING
+denied v = no-clean {(1 << 62) + 3} (v .virgin take21 21 15 (lent 64) refl refl .0 refl .1 {(1 << 62) + 3} refl)
+""",
+)
+
+
+def not_reserved(call):
+    """The arena of 8 pages stands as if the reservation had not been asked for."""
+    return (
+        "Reserved",
+        f"""
+denied : Reserved 8 plainRules ({call} ∷ []) → ⊥
+UNFOLDING
+denied r = true≢false (ap unaskedYet (r .status))
+""",
+    )
+
+
+NOT_CONTAINED = (
+    "Reserved",
+    """
+denied : Reserved 8 plainRules (commit 15 1 ∷ []) → ⊥
+UNFOLDING
+denied r = false≢true (ap isContained (r .contains 0 524288 .1 (record { granted = refl; no-overflow = omega arith; inside = omega arith })))
+""",
+)
+
+NOT_COUNTED = (
+    "Counted",
+    """
+abbrev xs : List Call
+xs = commit 15 1 ∷ growFrontier 15 0 1 2 ∷ []
+
+denied : Counted 8 plainRules xs (Heaps.figures 8 (heapAfter 8 plainRules xs)) → ⊥
+UNFOLDING
+denied c = false≢true (ap (λ (n : ℕ). eqb n 2) (c .commits))
+""",
+)
+
+
+def not_given(empty):
+    """Two pages of class 45, wholly out, come back as groups; so many empty ones are kept, and no cold one."""
+    return (
+        "GroupsGive",
+        f"""
+abbrev whole : ℕ → Page
+whole q = record {{ first = q; free = []; carved = 3; virgin = true; retired = false }}
+
+abbrev ws : List ℕ
+ws = smalls (3 ∷ 1027 ∷ 2051 ∷ 4099 ∷ 5123 ∷ 6147 ∷ [])
+
+denied : GroupsGive (shapeOf 45) (limits {empty} 0) (lists [] [] [] (whole 0 ∷ whole 1 ∷ [])) → ⊥
+UNFOLDING
+denied g = false≢true (ap (λ (l : List ℕ). eqb (getD l 0 9) 0) (g .gives 15 ws (chunkWord 3 0 ∷ chunkWord 3 1 ∷ []) (9 ∷ 9 ∷ []) none))
+""",
+    )
 
 
 def at(column, *lines):
@@ -632,6 +830,7 @@ RULES = [
     # runs and the sources.
     Rule(
         "free blocks of a carved page leave the list",
+        denied=not_offered(70),
         heap=[
             (
                 "heap.rs",
@@ -657,6 +856,7 @@ RULES = [
     ),
     Rule(
         "a page with one block left leaves the list",
+        denied=not_offered(65),
         heap=[
             (
                 "heap.rs",
@@ -687,6 +887,7 @@ RULES = [
     ),
     Rule(
         "a group release keeps virgin on a page with more to yield",
+        denied=NOT_VIRGIN,
         heap=[
             (
                 "heap.rs",
@@ -729,6 +930,7 @@ RULES = [
     ),
     Rule(
         "a commit longer than the arena does not ask",
+        denied=not_reserved("commit 15 9"),
         heap=[
             (
                 "arena.rs",
@@ -747,6 +949,7 @@ RULES = [
     ),
     Rule(
         "a take that is refused the reservation leaves it to be asked for again",
+        denied=not_reserved("takeBlocks 45 14 (lent 64)"),
         heap=[
             ("heap.rs", "let (base, fresh) = crate::arena::commit(pages);", "let (base, fresh) = crate::arena::commit_for_take(pages);"),
             (
@@ -777,11 +980,13 @@ RULES = [
     ),
     Rule(
         "`contains` goes up to the frontier",
+        denied=NOT_CONTAINED,
         heap=[("arena.rs", "start <= b && top <= end && b >= start", "start <= b && top <= start + self.bump.load(Ordering::Relaxed)")],
         model=[(ARENA, "leb (o + b) (size * pageBytes))", "leb (o + b) (a .frontier * pageBytes))")],
     ),
     Rule(
         "a growth is no commit",
+        denied=NOT_COUNTED,
         heap=[
             (
                 "arena.rs",
@@ -802,6 +1007,7 @@ RULES = [
     ),
     Rule(
         "groups give their runs in reverse order",
+        denied=not_given(0),
         heap=[
             (
                 "heap.rs",
@@ -835,6 +1041,7 @@ RULES = [
     ),
     Rule(
         "groups' fates stand in reverse order",
+        denied=not_given(1),
         heap=[
             (
                 "compare/src/oracle/mod.rs",
@@ -1086,6 +1293,23 @@ class Models:
         return answer.stdout.strip().splitlines()[-1:]
 
 
+    def denies(self, proof):
+        """Whether the checker takes a proof of `denied`."""
+        lib, file = self.place(f"{PROOFS}/Lib.antt"), self.place(f"{PROOFS}/Denied.antt")
+        before = lib.read_text()
+        try:
+            lib.write_text(before + "pub mod Denied\n")
+            file.write_text(DENIED + proof.replace("UNFOLDING", UNFOLDING).lstrip())
+            answer = run(["rt", "dev", "model"], self.folder)
+        finally:
+            lib.write_text(before)
+            file.unlink(missing_ok=True)
+        names = set(re.findall(r"Denied\.antt:\d+:\d+: error: `([^`]+)`", answer.stdout))
+        if "control" not in names:
+            raise SystemExit(answer.stdout)
+        return names == {"control"}
+
+
 def try_heaps(rules, work, stored):
     heaps = Heaps(work, stored)
     heaps.build()
@@ -1114,10 +1338,17 @@ def try_models(rules, work):
     for rule in rules:
         if not rule.model:
             continue
+        statement, proof = rule.denied or ("", "")
         with Edited(models.place, rule.model):
             refused = models.check(rule.crate)
+            false = bool(proof) and models.denies(proof)
         print(f"{rule.name}\n    {rule.crate}: {', '.join(refused) or 'NOT NOTICED'}", flush=True)
         good &= bool(refused)
+        if proof:
+            # Of the definitions as they are, nothing of the kind is taken.
+            false = false and not models.denies(proof)
+            print(f"    {statement}: {'false of it' if false else 'NOT DENIED'}", flush=True)
+            good &= false
     return good
 
 
