@@ -86,21 +86,21 @@ class Rule:
 
 # What the proofs of `denied` begin with; `control` is refused whatever the definitions are.
 DENIED = """use Prim.Native.Nat.{ℕ}
-use mathlib.Core.Path.{_≡_, refl, sym, ap}
+use mathlib.Core.Path.{_≡_, refl, sym, ap, _∙_}
 use mathlib.Core.List.{List, [], _∷_, _++_}
 use mathlib.Core.Option.{none}
-use mathlib.Core.Logic.{inl}
+use mathlib.Core.Logic.{inl, inr}
 use mathlib.Core.Bool.{Bool, true, false, true≢false, false≢true}
 use native.Mathlib.Omega.{arith}
 use lib.Dec.{eqb}
 use lib.ListN.{getD}
 use borrow.Author.Tests.{eqb-true}
-use Rattle.facts.specs.Lists.{total}
+use Rattle.facts.specs.Lists.{total, elem}
 use Rattle.facts.proofs.Bools.{by-cases}
 use Rattle.words.specs.Word.{chunkWord}
 use Rattle.classes.specs.Sizes.{smallSizes, mediumSizes}
 use Rattle.classes.specs.Shape.{smallShape, mediumShape, shapeOf}
-use Rattle.rules.specs.Rules.{limits, plainRules}
+use Rattle.rules.specs.Rules.{Rules, limits, plainRules}
 use Rattle.model.specs.Calls as Calls
 use Rattle.model.specs.Calls.{Call, Answer, takeBlocks, releaseBlocks, releaseBinChunks, commit, growFrontier}
 use Rattle.model.specs.HoleStore as Holes
@@ -115,13 +115,14 @@ use Rattle.model.specs.Release as Releases
 use Rattle.model.specs.Chunks as Chunks
 use Rattle.model.specs.Heap as Heaps
 use Rattle.model.specs.History.{Event, events, withCall, heapAfter}
-use Rattle.model.specs.Entries.{OutIn}
+use Rattle.model.specs.Entries.{Entry, OutIn}
 use Rattle.model.specs.Reservation.{Reserved}
 use Rattle.model.specs.Counted.{Counted}
 use Rattle.model.specs.Groups.{GroupsGive}
 use Rattle.model.specs.Offered as Told
-use Rattle.model.specs.Offered.{CleanBlock, gets, yieldsUp, renews, touches}
-use Rattle.model.specs.Demands.{Offered, Virgins}
+use Rattle.model.specs.Offered.{CleanBlock, gets, yieldsUp, renews, touches, blocksAt, Used, Full}
+use Rattle.model.specs.Sources.{Has, BlockOf, IsPartial, IsEmpty, IsCold, Chilled, chills, draws, follows, Later}
+use Rattle.model.specs.Demands.{Offered, Virgins, Sources}
 use Rattle.model.specs.Examples.{smalls, rising, lent}
 use Rattle.model.proofs.Since.{sinceFrom, observed}
 use Rattle.model.proofs.Fold.{liveFrom, live-in}
@@ -238,6 +239,159 @@ denied r = true≢false (ap unaskedYet (r .status))
 """,
     )
 
+
+# Two pages of class 45. The second is empty, and of the first one block is back; yet a take has blocks of the second.
+NOT_PARTIAL_FIRST = (
+    "Sources",
+    f"""
+abbrev take45 : Call
+take45 = takeBlocks 45 15 (lent 64)
+
+abbrev xs : List Call
+xs = take45 ∷ take45 ∷ releaseBlocks 45 15 (smalls (4099 ∷ 5123 ∷ 6147 ∷ [])) ∷ releaseBlocks 45 15 (smalls (3 ∷ [])) ∷ []
+
+abbrev vs : List Event
+vs = events 4 plainRules xs
+
+abbrev back : ℕ
+back = {(1 << 62) + 3}
+
+abbrev out : ℕ
+out = {(1 << 62) + 2051}
+
+abbrev second : ℕ
+second = {(1 << 62) + 4099}
+
+other : (u : Used vs 45 1) (w : ℕ) → elem w (blocksAt (shapeOf 45) 1) ≡ false → u .out .entry .word ≡ w → ⊥
+other u w n a = false≢true (sym n ∙ sym (ap (λ (z : ℕ). elem z (blocksAt (shapeOf 45) 1)) (sym (u .out .word) ∙ a)) ∙ u .block)
+
+no-used : Used vs 45 1 → ⊥
+UNFOLDING
+no-used u = elim (live-in 0 (u .out .entry) [] vs (u .out .live)) [
+  | inl a ↦ other u out refl (ap (λ (e : Entry). e .word) a)
+  | inr b ↦ elim b [
+    | inl a ↦ other u {(1 << 62) + 1027} refl (ap (λ (e : Entry). e .word) a)
+    | inr c ↦ absurd c
+  ]
+]
+
+not-chilled : Chilled 45 1 vs → ⊥
+UNFOLDING
+not-chilled c = false≢true (observed (chills 45 1) (draws 45 1) vs c)
+
+none-live : total (is 45 back) (liveFrom 0 [] vs) ≡ 0
+UNFOLDING
+none-live = refl
+
+not-out : OutIn vs 45 back → ⊥
+not-out o =
+    let e = o .entry in
+    let m = in-total (is 45 back) e (liveFrom 0 [] vs) (live-in 0 e [] vs (o .live)) in
+    let one : is 45 back e ≡ 1 = rw (← o .class, ← o .word) (is-self e) in
+    absurd (omega (arith, none-live))
+
+empty : BlockOf IsEmpty vs 45 second
+UNFOLDING
+empty = record {{ run = 1; has = inr (inl (refl, refl)); is = (no-used, not-chilled); block = refl }}
+
+used : Used vs 45 0
+UNFOLDING
+used = record {{ word = out; block = refl; out = record {{ entry = record {{ call = 0; place = 0; class = 45; word = out }}; live = inl (inl refl, refl); class = refl; word = refl }} }}
+
+not-full : Full vs 45 0 → ⊥
+UNFOLDING
+not-full f = not-out (f back refl)
+
+partial : Has IsPartial vs 45
+UNFOLDING
+partial = record {{ run = 0; has = inl (refl, refl); is = (used, not-full) }}
+
+denied : Sources 4 plainRules xs → ⊥
+UNFOLDING
+denied s = s .turns take45 45 15 (lent 64) refl refl .empty second refl .0 empty .0 partial
+""",
+)
+
+
+def two_parked(limits, body):
+    """Two pages of class 45, each taken whole and released; with these limits."""
+    return (
+        "Sources",
+        f"""
+abbrev take45 : Call
+take45 = takeBlocks 45 15 (lent 64)
+
+abbrev rules : Rules
+rules c = {limits}
+
+abbrev xs : List Call
+xs = take45 ∷ take45 ∷ releaseBlocks 45 15 (smalls (3 ∷ 1027 ∷ 2051 ∷ [])) ∷ releaseBlocks 45 15 (smalls (4099 ∷ 5123 ∷ 6147 ∷ [])) ∷ []
+
+abbrev vs : List Event
+vs = events 4 rules xs
+
+no-used : (q : ℕ) → Used vs 45 q → ⊥
+UNFOLDING
+no-used q u = absurd (live-in 0 (u .out .entry) [] vs (u .out .live))
+{body}""",
+    )
+
+
+# The first is empty and the second cold; yet a take has blocks of the second.
+NOT_EMPTY_FIRST = two_parked(
+    "limits 1 1",
+    f"""
+abbrev second : ℕ
+second = {(1 << 62) + 4099}
+
+not-chilled : Chilled 45 0 vs → ⊥
+UNFOLDING
+not-chilled c = false≢true (observed (chills 45 0) (draws 45 0) vs c)
+
+cold : BlockOf IsCold vs 45 second
+UNFOLDING
+cold = record {{ run = 1; has = inr (inl (refl, refl)); is = (no-used 1, inr (inr (inr (inl (refl, refl))))); block = refl }}
+
+empty : Has IsEmpty vs 45
+UNFOLDING
+empty = record {{ run = 0; has = inl (refl, refl); is = (no-used 0, not-chilled) }}
+
+denied : Sources 4 rules xs → ⊥
+UNFOLDING
+denied s = s .turns take45 45 15 (lent 64) refl refl .cold second refl .0 cold .1 empty
+""",
+)
+
+# Both are empty; yet a take has blocks of the first.
+NOT_LAST_FIRST = two_parked(
+    "limits 4 256",
+    f"""
+abbrev first : ℕ
+first = {(1 << 62) + 3}
+
+not-chilled : (q : ℕ) → Chilled 45 q vs → sinceFrom (chills 45 q) (draws 45 q) false vs ≡ false → ⊥
+not-chilled q c n = false≢true (sym n ∙ observed (chills 45 q) (draws 45 q) vs c)
+
+one : BlockOf IsEmpty vs 45 first
+UNFOLDING
+one = record {{ run = 0; has = inl (refl, refl); is = (no-used 0, λ c. not-chilled 0 c refl); block = refl }}
+
+other : Has IsEmpty vs 45
+UNFOLDING
+other = record {{ run = 1; has = inr (inl (refl, refl)); is = (no-used 1, λ c. not-chilled 1 c refl) }}
+
+not-later : Later 45 0 1 vs → ⊥
+UNFOLDING
+not-later l = false≢true (observed (follows 45 0 1) (touches 45 1) vs l)
+
+denied : Sources 4 rules xs → ⊥
+UNFOLDING one other
+denied s = elim (s .turns take45 45 15 (lent 64) refl refl .lastEmpty refl first refl one other) [
+  | inl e ↦ true≢false (ap (λ (n : ℕ). eqb n 0) e)
+  | inr l ↦ not-later l
+]
+""",
+)
 
 NOT_CONTAINED = (
     "Reserved",
@@ -553,6 +707,7 @@ RULES = [
     ),
     Rule(
         "empty pages come first in first out",
+        denied=NOT_LAST_FIRST,
         heap=[
             (
                 "heap.rs",
@@ -1053,6 +1208,7 @@ RULES = [
     ),
     Rule(
         "an empty page comes before the partial ones",
+        denied=NOT_PARTIAL_FIRST,
         heap=[
             (
                 "heap.rs",
@@ -1109,6 +1265,7 @@ RULES = [
     ),
     Rule(
         "a cold page comes before the empty ones",
+        denied=NOT_EMPTY_FIRST,
         heap=[
             (
                 "heap.rs",
@@ -1136,6 +1293,7 @@ RULES = [
     ),
     Rule(
         "an empty page comes after partial ones that did not fill the list",
+        denied=NOT_PARTIAL_FIRST,
         heap=[
             (
                 "heap.rs",
