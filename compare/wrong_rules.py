@@ -8,7 +8,7 @@ of RULES is tried in two ways:
             histories of crates/replay/stdin and the tests of editor/tests/boundaries
     model   the rule's definition is changed in a copy of the crates, and `rt dev CRATE` checks the crate's theorems and
             examples. A proof that follows the old definition's shape may fail too, so only what is stated otherwise counts:
-            docs/DEMANDS.md says which that is.
+            docs/DEMANDS.md says which that is. For some the statement is proved false of the changed definition
 
     compare/wrong_rules.py [--heap | --model] [--work FOLDER] [--stored FILE] [WORD ..]
 
@@ -38,6 +38,7 @@ HEAP = "crates/model/specs/Heap.antt"
 HOLES = "crates/model/specs/HoleStore.antt"
 OURS = "compare/seams/arena.rs"
 PAGE = "crates/model/specs/Page.antt"
+PROOFS = "crates/model/proofs"
 RELEASE = "crates/model/specs/Release.antt"
 DESTINATION = "crates/model/specs/Destination.antt"
 LEDGER = "compare/src/ledger.rs"
@@ -77,8 +78,359 @@ class Rule:
     model: list = field(default_factory=list)
     #: The crate that is checked.
     crate: str = "model"
-    #: Why no history can show it, if none can.
+    #: A statement, and a proof `denied` that it is false of these definitions.
+    denied: tuple = ()
+    #: Why no history can show it, if none can, or none that is short enough to run.
     alike: str = ""
+
+
+# What the proofs of `denied` begin with; `control` is refused whatever the definitions are.
+DENIED = """use Prim.Native.Nat.{ℕ}
+use mathlib.Core.Path.{_≡_, refl, sym, ap, _∙_}
+use mathlib.Core.List.{List, [], _∷_, _++_}
+use mathlib.Core.Option.{none}
+use mathlib.Core.Logic.{inl, inr}
+use mathlib.Core.Bool.{Bool, true, false, true≢false, false≢true}
+use native.Mathlib.Omega.{arith}
+use lib.Dec.{eqb}
+use lib.ListN.{getD}
+use borrow.Author.Tests.{eqb-true}
+use Rattle.facts.specs.Lists.{total, elem}
+use Rattle.facts.proofs.Bools.{by-cases}
+use Rattle.words.specs.Word.{chunkWord}
+use Rattle.classes.specs.Sizes.{smallSizes, mediumSizes}
+use Rattle.classes.specs.Shape.{smallShape, mediumShape, shapeOf}
+use Rattle.rules.specs.Rules.{Rules, limits, plainRules}
+use Rattle.model.specs.Calls as Calls
+use Rattle.model.specs.Calls.{Call, Answer, takeBlocks, releaseBlocks, releaseBinChunks, commit, growFrontier}
+use Rattle.model.specs.HoleStore as Holes
+use Rattle.model.specs.Arena as Arenas
+use Rattle.model.specs.Arena.{Status, unasked, ready, disabled}
+use Rattle.model.specs.Page as Pages
+use Rattle.model.specs.Page.{Page}
+use Rattle.model.specs.Class as Classes
+use Rattle.model.specs.Class.{lists}
+use Rattle.model.specs.Destination as Destinations
+use Rattle.model.specs.Release as Releases
+use Rattle.model.specs.Chunks as Chunks
+use Rattle.model.specs.Heap as Heaps
+use Rattle.model.specs.History.{Event, events, withCall, heapAfter}
+use Rattle.model.specs.Entries.{Entry, OutIn}
+use Rattle.model.specs.Reservation.{Reserved}
+use Rattle.model.specs.Counted.{Counted}
+use Rattle.model.specs.Groups.{GroupsGive}
+use Rattle.model.specs.Offered as Told
+use Rattle.model.specs.Offered.{CleanBlock, gets, yieldsUp, renews, touches, blocksAt, Used, Full}
+use Rattle.model.specs.Sources.{Has, BlockOf, IsPartial, IsEmpty, IsCold, Chilled, chills, draws, follows, Later}
+use Rattle.model.specs.Demands.{Offered, Virgins, Sources}
+use Rattle.model.specs.Examples.{smalls, rising, lent}
+use Rattle.model.proofs.Since.{sinceFrom, observed}
+use Rattle.model.proofs.Fold.{liveFrom, live-in}
+use Rattle.model.proofs.EntryCounts.{is, is-self, in-total}
+
+control : true ≡ false
+control = refl
+
+-- 71 blocks to a page
+abbrev take21 : Call
+take21 = takeBlocks 21 15 (lent 64)
+
+abbrev unaskedYet : Status → Bool
+unaskedYet unasked = true
+unaskedYet ready = false
+unaskedYet disabled = false
+
+abbrev isContained : Answer → Bool
+isContained (Calls.refused n) = false
+isContained (Calls.taken n l v) = false
+isContained (Calls.fate n) = false
+isContained (Calls.fates l) = false
+isContained (Calls.run q f) = false
+isContained Calls.noRun = false
+isContained Calls.released = false
+isContained (Calls.grown b) = false
+isContained (Calls.contained b) = b
+isContained (Calls.reported f) = false
+
+"""
+# What they unfold.
+UNFOLDING = (
+    "unfolding smallSizes mediumSizes smallShape mediumShape shapeOf plainRules Told.hasBlock Told.fated Calls.wayOf"
+    " Holes.{leastFit cutFrom lowestThat place insert accepts}"
+    " Arenas.{give drawFrom draw grant commitReady commitAs commit grow contains}"
+    " Pages.{wordOf carveAs carvedWords isOut noneOut hasMore carvedNow pop returned retire reused}"
+    " Classes.{after fillFromList served thawed onRun takeFrom} Destinations.{destinationOf}"
+    " Releases.{find inPartial inFull locate park settle ofKind outHere repeats onPage releaseList}"
+    " Chunks.{blocksOn chunkFits chunked settleChunk settleChunks releaseChunks answer}"
+    " Heaps.{newHeap offer finish interact classCall heldDirect badRun parkedPages commitCall growCall releaseCall directCall step}"
+)
+UNFOLDING = re.sub(r"(\w+)\.\{([^}]*)\}", lambda m: " ".join(f"{m[1]}.{name}" for name in m[2].split()), UNFOLDING)
+
+
+def not_offered(last):
+    """Of one page's 71 blocks all are taken, and 1 to `last` released; 64 are taken, and block 65 is left."""
+    return (
+        "Offered",
+        f"""
+abbrev xs : List Call
+xs = take21 ∷ take21 ∷ releaseBlocks 21 15 (smalls (rising 60 57 {last})) ∷ take21 ∷ []
+
+abbrev vs : List Event
+vs = events 1 plainRules xs
+
+abbrev w : ℕ
+w = {(1 << 62) + 3 + 57 * 65}
+
+none-live : total (is 21 w) (liveFrom 0 [] vs) ≡ 0
+UNFOLDING
+none-live = refl
+
+not-out : OutIn vs 21 w → ⊥
+not-out o =
+    let e = o .entry in
+    let m = in-total (is 21 w) e (liveFrom 0 [] vs) (live-in 0 e [] vs (o .live)) in
+    let one : is 21 w e ≡ 1 = rw (← o .class, ← o .word) (is-self e) in
+    absurd (omega (arith, none-live))
+
+denied : Offered 1 plainRules xs → ⊥
+UNFOLDING
+denied o = not-out (o .spent 21 .1 (record {{ partial = refl; empty = refl; cold = refl }}) .full 0 (inl (refl, refl)) w refl)
+""",
+    )
+
+
+NOT_VIRGIN = (
+    "Virgins",
+    f"""
+abbrev xs : List Call
+xs = take21 ∷ releaseBinChunks 21 15 (smalls (3 ∷ 60 ∷ 117 ∷ [])) (chunkWord 3 0 ∷ []) (9 ∷ []) ∷ []
+
+abbrev vs : List Event
+vs = withCall 4 plainRules xs take21
+
+at-zero : (q : ℕ) → sinceFrom (gets 21 q) (yieldsUp 21 q) false vs ≡ true → eqb 0 q ≡ true
+UNFOLDING
+at-zero q e = by-cases (eqb 0 q) (λ a. a) (λ a. absurd (false≢true (rw a at e)))
+
+not-clean : sinceFrom (renews 21 0) (touches 21 0) false vs ≡ true → ⊥
+UNFOLDING
+not-clean e = false≢true e
+
+no-clean : (w : ℕ) → CleanBlock vs 21 w → ⊥
+no-clean w b =
+    let z : 0 ≡ b .run = eqb-true 0 (b .run) (at-zero (b .run) (observed (gets 21 (b .run)) (yieldsUp 21 (b .run)) vs (b .has))) in
+    not-clean (rw (sym z) at (observed (renews 21 (b .run)) (touches 21 (b .run)) vs (b .clean)))
+
+denied : Virgins 4 plainRules xs → ⊥
+UNFOLDING
+denied v = no-clean {(1 << 62) + 3} (v .virgin take21 21 15 (lent 64) refl refl .0 refl .1 {(1 << 62) + 3} refl)
+""",
+)
+
+
+def not_reserved(call):
+    """The arena of 8 pages stands as if the reservation had not been asked for."""
+    return (
+        "Reserved",
+        f"""
+denied : Reserved 8 plainRules ({call} ∷ []) → ⊥
+UNFOLDING
+denied r = true≢false (ap unaskedYet (r .status))
+""",
+    )
+
+
+# Two pages of class 45. The second is empty, and of the first one block is back; yet a take has blocks of the second.
+NOT_PARTIAL_FIRST = (
+    "Sources",
+    f"""
+abbrev take45 : Call
+take45 = takeBlocks 45 15 (lent 64)
+
+abbrev xs : List Call
+xs = take45 ∷ take45 ∷ releaseBlocks 45 15 (smalls (4099 ∷ 5123 ∷ 6147 ∷ [])) ∷ releaseBlocks 45 15 (smalls (3 ∷ [])) ∷ []
+
+abbrev vs : List Event
+vs = events 4 plainRules xs
+
+abbrev back : ℕ
+back = {(1 << 62) + 3}
+
+abbrev out : ℕ
+out = {(1 << 62) + 2051}
+
+abbrev second : ℕ
+second = {(1 << 62) + 4099}
+
+other : (u : Used vs 45 1) (w : ℕ) → elem w (blocksAt (shapeOf 45) 1) ≡ false → u .out .entry .word ≡ w → ⊥
+other u w n a = false≢true (sym n ∙ sym (ap (λ (z : ℕ). elem z (blocksAt (shapeOf 45) 1)) (sym (u .out .word) ∙ a)) ∙ u .block)
+
+no-used : Used vs 45 1 → ⊥
+UNFOLDING
+no-used u = elim (live-in 0 (u .out .entry) [] vs (u .out .live)) [
+  | inl a ↦ other u out refl (ap (λ (e : Entry). e .word) a)
+  | inr b ↦ elim b [
+    | inl a ↦ other u {(1 << 62) + 1027} refl (ap (λ (e : Entry). e .word) a)
+    | inr c ↦ absurd c
+  ]
+]
+
+not-chilled : Chilled 45 1 vs → ⊥
+UNFOLDING
+not-chilled c = false≢true (observed (chills 45 1) (draws 45 1) vs c)
+
+none-live : total (is 45 back) (liveFrom 0 [] vs) ≡ 0
+UNFOLDING
+none-live = refl
+
+not-out : OutIn vs 45 back → ⊥
+not-out o =
+    let e = o .entry in
+    let m = in-total (is 45 back) e (liveFrom 0 [] vs) (live-in 0 e [] vs (o .live)) in
+    let one : is 45 back e ≡ 1 = rw (← o .class, ← o .word) (is-self e) in
+    absurd (omega (arith, none-live))
+
+empty : BlockOf IsEmpty vs 45 second
+UNFOLDING
+empty = record {{ run = 1; has = inr (inl (refl, refl)); is = (no-used, not-chilled); block = refl }}
+
+used : Used vs 45 0
+UNFOLDING
+used = record {{ word = out; block = refl; out = record {{ entry = record {{ call = 0; place = 0; class = 45; word = out }}; live = inl (inl refl, refl); class = refl; word = refl }} }}
+
+not-full : Full vs 45 0 → ⊥
+UNFOLDING
+not-full f = not-out (f back refl)
+
+partial : Has IsPartial vs 45
+UNFOLDING
+partial = record {{ run = 0; has = inl (refl, refl); is = (used, not-full) }}
+
+denied : Sources 4 plainRules xs → ⊥
+UNFOLDING
+denied s = s .turns take45 45 15 (lent 64) refl refl .empty second refl .0 empty .0 partial
+""",
+)
+
+
+def two_parked(limits, body):
+    """Two pages of class 45, each taken whole and released; with these limits."""
+    return (
+        "Sources",
+        f"""
+abbrev take45 : Call
+take45 = takeBlocks 45 15 (lent 64)
+
+abbrev rules : Rules
+rules c = {limits}
+
+abbrev xs : List Call
+xs = take45 ∷ take45 ∷ releaseBlocks 45 15 (smalls (3 ∷ 1027 ∷ 2051 ∷ [])) ∷ releaseBlocks 45 15 (smalls (4099 ∷ 5123 ∷ 6147 ∷ [])) ∷ []
+
+abbrev vs : List Event
+vs = events 4 rules xs
+
+no-used : (q : ℕ) → Used vs 45 q → ⊥
+UNFOLDING
+no-used q u = absurd (live-in 0 (u .out .entry) [] vs (u .out .live))
+{body}""",
+    )
+
+
+# The first is empty and the second cold; yet a take has blocks of the second.
+NOT_EMPTY_FIRST = two_parked(
+    "limits 1 1",
+    f"""
+abbrev second : ℕ
+second = {(1 << 62) + 4099}
+
+not-chilled : Chilled 45 0 vs → ⊥
+UNFOLDING
+not-chilled c = false≢true (observed (chills 45 0) (draws 45 0) vs c)
+
+cold : BlockOf IsCold vs 45 second
+UNFOLDING
+cold = record {{ run = 1; has = inr (inl (refl, refl)); is = (no-used 1, inr (inr (inr (inl (refl, refl))))); block = refl }}
+
+empty : Has IsEmpty vs 45
+UNFOLDING
+empty = record {{ run = 0; has = inl (refl, refl); is = (no-used 0, not-chilled) }}
+
+denied : Sources 4 rules xs → ⊥
+UNFOLDING
+denied s = s .turns take45 45 15 (lent 64) refl refl .cold second refl .0 cold .1 empty
+""",
+)
+
+# Both are empty; yet a take has blocks of the first.
+NOT_LAST_FIRST = two_parked(
+    "limits 4 256",
+    f"""
+abbrev first : ℕ
+first = {(1 << 62) + 3}
+
+not-chilled : (q : ℕ) → Chilled 45 q vs → sinceFrom (chills 45 q) (draws 45 q) false vs ≡ false → ⊥
+not-chilled q c n = false≢true (sym n ∙ observed (chills 45 q) (draws 45 q) vs c)
+
+one : BlockOf IsEmpty vs 45 first
+UNFOLDING
+one = record {{ run = 0; has = inl (refl, refl); is = (no-used 0, λ c. not-chilled 0 c refl); block = refl }}
+
+other : Has IsEmpty vs 45
+UNFOLDING
+other = record {{ run = 1; has = inr (inl (refl, refl)); is = (no-used 1, λ c. not-chilled 1 c refl) }}
+
+not-later : Later 45 0 1 vs → ⊥
+UNFOLDING
+not-later l = false≢true (observed (follows 45 0 1) (touches 45 1) vs l)
+
+denied : Sources 4 rules xs → ⊥
+UNFOLDING one other
+denied s = elim (s .turns take45 45 15 (lent 64) refl refl .lastEmpty refl first refl one other) [
+  | inl e ↦ true≢false (ap (λ (n : ℕ). eqb n 0) e)
+  | inr l ↦ not-later l
+]
+""",
+)
+
+NOT_CONTAINED = (
+    "Reserved",
+    """
+denied : Reserved 8 plainRules (commit 15 1 ∷ []) → ⊥
+UNFOLDING
+denied r = false≢true (ap isContained (r .contains 0 524288 .1 (record { granted = refl; no-overflow = omega arith; inside = omega arith })))
+""",
+)
+
+NOT_COUNTED = (
+    "Counted",
+    """
+abbrev xs : List Call
+xs = commit 15 1 ∷ growFrontier 15 0 1 2 ∷ []
+
+denied : Counted 8 plainRules xs (Heaps.figures 8 (heapAfter 8 plainRules xs)) → ⊥
+UNFOLDING
+denied c = false≢true (ap (λ (n : ℕ). eqb n 2) (c .commits))
+""",
+)
+
+
+def not_given(empty):
+    """Two pages of class 45, wholly out, come back as groups; so many empty ones are kept, and no cold one."""
+    return (
+        "GroupsGive",
+        f"""
+abbrev whole : ℕ → Page
+whole q = record {{ first = q; free = []; carved = 3; virgin = true; retired = false }}
+
+abbrev ws : List ℕ
+ws = smalls (3 ∷ 1027 ∷ 2051 ∷ 4099 ∷ 5123 ∷ 6147 ∷ [])
+
+denied : GroupsGive (shapeOf 45) (limits {empty} 0) (lists [] [] [] (whole 0 ∷ whole 1 ∷ [])) → ⊥
+UNFOLDING
+denied g = false≢true (ap (λ (l : List ℕ). eqb (getD l 0 9) 0) (g .gives 15 ws (chunkWord 3 0 ∷ chunkWord 3 1 ∷ []) (9 ∷ 9 ∷ []) none))
+""",
+    )
 
 
 def at(column, *lines):
@@ -222,6 +574,10 @@ RULES = [
     Rule(
         "rows give no more than document 01's limits",
         heap=[("compare/src/oracle/limits.rs", "given => given as usize,", "given => own.min(given as usize),")],
+        model=[
+            (DESTINATION, "{ℕ, suc, _+_, _*_}", "{ℕ, suc, _+_, _*_, min}"),
+            (DESTINATION, "ltb e (lim .empty) &&", "ltb e (min (lim .empty) (cond (isMedium sh) 32 4)) &&"),
+        ],
     ),
     Rule(
         "a row's two limits are exchanged",
@@ -351,6 +707,7 @@ RULES = [
     ),
     Rule(
         "empty pages come first in first out",
+        denied=NOT_LAST_FIRST,
         heap=[
             (
                 "heap.rs",
@@ -497,6 +854,25 @@ RULES = [
         ],
     ),
     Rule(
+        "a cut hole goes to the end",
+        alike="the order of the holes shows in no answer (`orderless`); the row and the book's words hold it",
+        heap=[
+            (
+                OURS,
+                "holes.entries[i] = (off + pages * ARENA_ALIGN, length - pages);",
+                "let last = holes.len - 1;\n            holes.entries[i] = holes.entries[last];\n"
+                "            holes.entries[last] = (off + pages * ARENA_ALIGN, length - pages);",
+            )
+        ],
+        model=[
+            (
+                HOLES,
+                "(store (setAt i (hole (x .first + n) (x .pages - n)) (s .holes)) (s .total - n))",
+                "(store (removeAt i (s .holes) ++ hole (x .first + n) (x .pages - n) ∷ []) (s .total - n))",
+            )
+        ],
+    ),
+    Rule(
         "4,095 holes",
         heap=[("arena.rs", "HOLE_SLOTS: usize = 4096;", "HOLE_SLOTS: usize = 4095;")],
         model=[(LIMITS, "holeSlots = 4096", "holeSlots = 4095")],
@@ -604,6 +980,366 @@ RULES = [
     Rule(
         "1,048,577 pages open",
         heap=[(WORDS, "MAX_PAGES: u32 = 1_048_576;", "MAX_PAGES: u32 = 1_048_577;")],
+    ),
+    # The statements told from the history (docs/MODEL.md, "Statements"): what is at hand, virgin, the reservation, the counts, the groups'
+    # runs and the sources.
+    Rule(
+        "free blocks of a carved page leave the list",
+        denied=not_offered(70),
+        heap=[
+            (
+                "heap.rs",
+                at(12, "if *count >= REFILL_BATCH {", "    break;", "}"),
+                at(
+                    12,
+                    "if *count >= REFILL_BATCH {",
+                    "    if (*page).used as usize + (*page).free_count as usize >= (*page).capacity() {",
+                    "        unlink_partial(list, page);",
+                    "    }",
+                    "    break;",
+                    "}",
+                ),
+            )
+        ],
+        model=[
+            (
+                CLASS,
+                "stays sh p = hasMore sh p",
+                "stays sh p = cond (isMedium sh) (hasMore sh p) (hasMore sh (record { first = p .first; free = []; carved = p .carved; virgin = p .virgin; retired = p .retired }))",
+            )
+        ],
+    ),
+    Rule(
+        "a page with one block left leaves the list",
+        denied=not_offered(65),
+        heap=[
+            (
+                "heap.rs",
+                at(12, "if *count >= REFILL_BATCH {", "    break;", "}"),
+                at(
+                    12,
+                    "if *count >= REFILL_BATCH {",
+                    "    if (*page).free_count == 1 && (*page).used as usize + 1 >= (*page).capacity() {",
+                    "        unlink_partial(list, page);",
+                    "    }",
+                    "    break;",
+                    "}",
+                ),
+            ),
+            (
+                "heap.rs",
+                at(16, "if (*span).free_count == 0 {", "    munlink_partial(list, span);"),
+                at(16, "if (*span).free_count == 0 || (*span).free_count == 1 && *count == cap {", "    munlink_partial(list, span);"),
+            ),
+        ],
+        model=[
+            (
+                CLASS,
+                "stays sh p = hasMore sh p",
+                "stays sh p = hasMore sh (record { first = p .first; free = drop 1 (p .free); carved = p .carved; virgin = p .virgin; retired = p .retired })",
+            )
+        ],
+    ),
+    Rule(
+        "a group release keeps virgin on a page with more to yield",
+        denied=NOT_VIRGIN,
+        heap=[
+            (
+                "heap.rs",
+                at(
+                    16,
+                    "} else {",
+                    "    release_inner(",
+                    "        &mut list,",
+                    "        g.page,",
+                    "        g.head,",
+                    "        g.tail,",
+                    "        g.n & !PAGE_RELEASE_RETIRED,",
+                    "    )",
+                    "};",
+                ),
+                at(
+                    16,
+                    "} else {",
+                    "    let listed = (*g.page).flags & FLAG_IN_PARTIAL != 0;",
+                    "    let virgin = (*g.page).flags & FLAG_VIRGIN;",
+                    "    let fate = release_inner(&mut list, g.page, g.head, g.tail, g.n & !PAGE_RELEASE_RETIRED);",
+                    "    if listed {",
+                    "        (*g.page).flags |= virgin;",
+                    "    }",
+                    "    fate",
+                    "};",
+                ),
+            )
+        ],
+        model=[
+            (RELEASE, "{Bool, false, cond, not}", "{Bool, false, cond, not, _&&_}"),
+            (RELEASE, "{Page, isOut, noneOut, returned, retire}", "{Page, isOut, noneOut, hasMore, returned, retire}"),
+            (
+                RELEASE,
+                "(record { class = x .with (returned ws (x .page)); fate",
+                "(record { class = x .with (record { first = x .page .first; free = ws ++ x .page .free; carved = x .page .carved; "
+                "virgin = retires && (hasMore sh (x .page) && x .page .virgin); retired = false }); fate",
+            ),
+        ],
+    ),
+    Rule(
+        "a commit longer than the arena does not ask",
+        denied=not_reserved("commit 15 9"),
+        heap=[
+            (
+                "arena.rs",
+                at(8, "if !self.ensure_init() {", "    return (ptr::null_mut(), false);"),
+                at(8, "if len > self.size || !self.ensure_init() {", "    return (ptr::null_mut(), false);"),
+            )
+        ],
+        model=[
+            (
+                ARENA,
+                "commitAs size h n a unasked = cond (reservationGranted h)",
+                "commitAs size h n a unasked = cond (ltb size n) (given a none false) (cond (reservationGranted h)",
+            ),
+            (ARENA, "(given (withStatus disabled a) none false)", "(given (withStatus disabled a) none false))"),
+        ],
+    ),
+    Rule(
+        "a take that is refused the reservation leaves it to be asked for again",
+        denied=not_reserved("takeBlocks 45 14 (lent 64)"),
+        heap=[
+            ("heap.rs", "let (base, fresh) = crate::arena::commit(pages);", "let (base, fresh) = crate::arena::commit_for_take(pages);"),
+            (
+                "arena.rs",
+                "/// Membership test for the unmap-vs-return decision.\n",
+                at(
+                    0,
+                    "pub(crate) unsafe fn commit_for_take(pages: usize) -> (*mut u8, bool) {",
+                    "    let unasked = ARENA.state.load(Ordering::Acquire) == 0;",
+                    "    let given = ARENA.commit(pages);",
+                    "    if unasked && ARENA.state.load(Ordering::Acquire) == 2 {",
+                    "        ARENA.state.store(0, Ordering::Release);",
+                    "    }",
+                    "    given",
+                    "}",
+                    "",
+                ),
+            ),
+        ],
+        model=[
+            (HEAP, "use Rattle.model.specs.Arena as Arenas\n", "use Rattle.words.specs.Host.{reservationGranted}\nuse Rattle.model.specs.Arena as Arenas\n"),
+            (
+                HEAP,
+                "offer size h a (asks n k) = Arenas.commit size h n a",
+                "offer size h a (asks n k) = cond (reservationGranted h || Arenas.isReady (a .status)) (Arenas.commit size h n a) (given a none false)",
+            ),
+        ],
+    ),
+    Rule(
+        "`contains` goes up to the frontier",
+        denied=NOT_CONTAINED,
+        heap=[("arena.rs", "start <= b && top <= end && b >= start", "start <= b && top <= start + self.bump.load(Ordering::Relaxed)")],
+        model=[(ARENA, "leb (o + b) (size * pageBytes))", "leb (o + b) (a .frontier * pageBytes))")],
+    ),
+    Rule(
+        "a growth is no commit",
+        denied=NOT_COUNTED,
+        heap=[
+            (
+                "arena.rs",
+                at(8, "if self.commit_range(added_base as usize, new_len - old_len) {", "    self.commits.fetch_add(1, Ordering::Relaxed);"),
+                at(8, "if self.commit_range(added_base as usize, new_len - old_len) {"),
+            )
+        ],
+        model=[(ARENA, "grown (counted true b) true", "grown b true")],
+    ),
+    Rule(
+        "the counts are kept modulo 2 to the 32nd",
+        alike="in a history of fewer than 2 to the 32nd commits; the book's words hold it",
+        heap=[
+            ("arena.rs", f"self.{count}.load(Ordering::Relaxed) as u64", f"self.{count}.load(Ordering::Relaxed) as u32 as u64")
+            for count in ("commits", "reuses", "abandoned")
+        ],
+        model=[(ARENA, "more n = (n + 1) % 2 ^ 64", "more n = (n + 1) % 2 ^ 32")],
+    ),
+    Rule(
+        "groups give their runs in reverse order",
+        denied=not_given(0),
+        heap=[
+            (
+                "heap.rs",
+                at(
+                    8,
+                    "for (g, slot) in chunks.iter().zip(fate_storage.iter_mut()) {",
+                    "    // Safe: every `0..chunks.len()` slot was written just above,",
+                    "    // under the same iteration bound.",
+                    "    let fate = unsafe { slot.assume_init() };",
+                    "    act_page_fate(g.page, fate);",
+                    "}",
+                ),
+                at(
+                    8,
+                    "for (g, slot) in chunks.iter().zip(fate_storage.iter_mut()).rev() {",
+                    "    if let PageFate::Unmap = slot.assume_init() {",
+                    "        crate::arena::release(g.page.cast::<u8>(), 1);",
+                    "    }",
+                    "}",
+                    "for (_, slot) in chunks.iter().zip(fate_storage.iter_mut()) {",
+                    "    super::super::fates::push(match slot.assume_init() {",
+                    "        PageFate::Keep => 0,",
+                    "        PageFate::Cold => 1,",
+                    "        PageFate::Unmap => 2,",
+                    "    });",
+                    "}",
+                ),
+            )
+        ],
+        model=[(CHUNKS, "gives = b .gives ++ r .gives", "gives = r .gives ++ b .gives")],
+    ),
+    Rule(
+        "groups' fates stand in reverse order",
+        denied=not_given(1),
+        heap=[
+            (
+                "compare/src/oracle/mod.rs",
+                "made.chunks.iter().zip(fates).map(|(chunk, fate)| if retired(chunk) { fate + 4 } else { fate }).collect()",
+                "made.chunks.iter().zip(fates).map(|(chunk, fate)| if retired(chunk) { fate + 4 } else { fate }).rev().collect()",
+            )
+        ],
+        model=[(CHUNKS, "fates = b .fate ∷ r .fates;", "fates = r .fates ++ b .fate ∷ [];")],
+    ),
+    Rule(
+        "an empty page comes before the partial ones",
+        denied=NOT_PARTIAL_FIRST,
+        heap=[
+            (
+                "heap.rs",
+                at(
+                    12,
+                    "let mut list = self.classes[class].lock();",
+                    "fill_from_list(&mut list.head, &mut chain, &mut count, &mut virgin);",
+                ),
+                at(
+                    12,
+                    "let mut list = self.classes[class].lock();",
+                    "if list.empty.is_null() {",
+                    "    fill_from_list(&mut list.head, &mut chain, &mut count, &mut virgin);",
+                    "}",
+                ),
+            ),
+            (
+                "heap.rs",
+                at(
+                    12,
+                    "let mut list = self.classes[mclass].lock();",
+                    "mfill_from_list(",
+                    "    &mut list.head,",
+                    "    &mut chain,",
+                    "    &mut count,",
+                    "    &mut virgin,",
+                    "    refill_cap,",
+                ),
+                at(
+                    12,
+                    "let mut list = self.classes[mclass].lock();",
+                    "let none_empty = list.empty.is_null();",
+                    "mfill_from_list(",
+                    "    &mut list.head,",
+                    "    &mut chain,",
+                    "    &mut count,",
+                    "    &mut virgin,",
+                    "    if none_empty { refill_cap } else { 0 },",
+                ),
+            ),
+        ],
+        model=[
+            (
+                CLASS,
+                "takeFrom sh l (p ∷ ps) es cs fs = done (served l (fillFromList sh (sh .batch) (p ∷ ps)) es cs fs)",
+                "takeFrom sh l ps (e ∷ es) cs fs = done (served l (fillFromList sh (sh .batch) (reused sh e ∷ ps)) es cs fs)",
+            ),
+            (
+                CLASS,
+                "takeFrom sh l [] (e ∷ es) cs fs = done (served l (fillFromList sh (sh .batch) (reused sh e ∷ [])) es cs fs)",
+                "takeFrom sh l (p ∷ ps) [] cs fs = done (served l (fillFromList sh (sh .batch) (p ∷ ps)) [] cs fs)",
+            ),
+        ],
+    ),
+    Rule(
+        "a cold page comes before the empty ones",
+        denied=NOT_EMPTY_FIRST,
+        heap=[
+            (
+                "heap.rs",
+                at(12, "if count == 0 && !list.empty.is_null() {", "    // Recycle"),
+                at(12, "if count == 0 && list.cold_len == 0 && !list.empty.is_null() {", "    // Recycle"),
+            ),
+            (
+                "heap.rs",
+                at(12, "    refill_cap,", ");") + "\n\n" + at(12, "if count == 0 && !list.empty.is_null() {"),
+                at(12, "    refill_cap,", ");") + "\n\n" + at(12, "if count == 0 && list.cold_len == 0 && !list.empty.is_null() {"),
+            ),
+        ],
+        model=[
+            (
+                CLASS,
+                "takeFrom sh l [] (e ∷ es) cs fs = done (served l (fillFromList sh (sh .batch) (reused sh e ∷ [])) es cs fs)",
+                "takeFrom sh l [] es (c ∷ cs) fs = done (served l (fillFromList sh (sh .batch) (thawed sh c ∷ [])) es cs fs)",
+            ),
+            (
+                CLASS,
+                "takeFrom sh l [] [] (c ∷ cs) fs = done (served l (fillFromList sh (sh .batch) (thawed sh c ∷ [])) [] cs fs)",
+                "takeFrom sh l [] (e ∷ es) [] fs = done (served l (fillFromList sh (sh .batch) (reused sh e ∷ [])) es [] fs)",
+            ),
+        ],
+    ),
+    Rule(
+        "an empty page comes after partial ones that did not fill the list",
+        denied=NOT_PARTIAL_FIRST,
+        heap=[
+            (
+                "heap.rs",
+                at(12, "if count == 0 && !list.empty.is_null() {", "    // Recycle"),
+                at(12, "if count < REFILL_BATCH && !list.empty.is_null() {", "    // Recycle"),
+            ),
+            (
+                "heap.rs",
+                at(12, "    refill_cap,", ");") + "\n\n" + at(12, "if count == 0 && !list.empty.is_null() {"),
+                at(12, "    refill_cap,", ");") + "\n\n" + at(12, "if count < refill_cap && !list.empty.is_null() {"),
+            ),
+        ],
+        model=[
+            (CLASS, "use lib.Dec.{eqb}", "use lib.Dec.{eqb, ltb}"),
+            (
+                CLASS,
+                "takeFrom sh l (p ∷ ps) es cs fs = done (served l (fillFromList sh (sh .batch) (p ∷ ps)) es cs fs)\n",
+                "takeFrom sh l (p ∷ ps) [] cs fs = done (served l (fillFromList sh (sh .batch) (p ∷ ps)) [] cs fs)\n"
+                "takeFrom sh l (p ∷ ps) (e ∷ es) cs fs =\n"
+                "    cond (ltb (length (fillFromList sh (sh .batch) (p ∷ ps) .blocks)) (sh .batch))\n"
+                "    (done (served l (fillFromList sh (sh .batch) ((p ∷ ps) ++ reused sh e ∷ [])) es cs fs))\n"
+                "    (done (served l (fillFromList sh (sh .batch) (p ∷ ps)) (e ∷ es) cs fs))\n",
+            ),
+        ],
+    ),
+    Rule(
+        "an ungranted run from the frontier is lost",
+        heap=[
+            (
+                "arena.rs",
+                at(20, "self.holes_give(base as *mut u8, pages);", "return (ptr::null_mut(), false);"),
+                at(20, "return (ptr::null_mut(), false);"),
+            )
+        ],
+        model=[(ARENA, "(given (give n q a) none false)", "(given (cond f a (give n q a)) none false)")],
+    ),
+    Rule(
+        "after an ungranted growth the frontier goes back",
+        heap=[
+            (
+                "arena.rs",
+                "self.holes_give(added_base, new_pages - old_pages);",
+                "self.bump.store(old_end, Ordering::Release);",
+            )
+        ],
+        model=[(ARENA, "(grown (give n e b) false)", "(grown a false)")],
     ),
     # What a word may hold shows in no history: the table of ranges has it, and editor/tests/boundaries/ranges.rs.
     Rule("VIRGIN up to 7", model=[(RANGES, "(virginFlag p) = upTo 1", "(virginFlag p) = upTo 7")], crate="demands"),
@@ -715,6 +1451,23 @@ class Models:
         return answer.stdout.strip().splitlines()[-1:]
 
 
+    def denies(self, proof):
+        """Whether the checker takes a proof of `denied`."""
+        lib, file = self.place(f"{PROOFS}/Lib.antt"), self.place(f"{PROOFS}/Denied.antt")
+        before = lib.read_text()
+        try:
+            lib.write_text(before + "pub mod Denied\n")
+            file.write_text(DENIED + proof.replace("UNFOLDING", UNFOLDING).lstrip())
+            answer = run(["rt", "dev", "model"], self.folder)
+        finally:
+            lib.write_text(before)
+            file.unlink(missing_ok=True)
+        names = set(re.findall(r"Denied\.antt:\d+:\d+: error: `([^`]+)`", answer.stdout))
+        if "control" not in names:
+            raise SystemExit(answer.stdout)
+        return names == {"control"}
+
+
 def try_heaps(rules, work, stored):
     heaps = Heaps(work, stored)
     heaps.build()
@@ -743,10 +1496,17 @@ def try_models(rules, work):
     for rule in rules:
         if not rule.model:
             continue
+        statement, proof = rule.denied or ("", "")
         with Edited(models.place, rule.model):
             refused = models.check(rule.crate)
+            false = bool(proof) and models.denies(proof)
         print(f"{rule.name}\n    {rule.crate}: {', '.join(refused) or 'NOT NOTICED'}", flush=True)
         good &= bool(refused)
+        if proof:
+            # Of the definitions as they are, nothing of the kind is taken.
+            false = false and not models.denies(proof)
+            print(f"    {statement}: {'false of it' if false else 'NOT DENIED'}", flush=True)
+            good &= false
     return good
 
 

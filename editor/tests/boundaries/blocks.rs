@@ -65,3 +65,40 @@ fn a_take_over_several_pages_is_virgin_if_each_is() {
     let (blocks, virgin) = heap.take(Family::Small, 21, ALL).expect("class 21");
     assert_eq!((blocks.len(), blocks[7], virgin), (8, counts[0], false));
 }
+
+/// Class 21's page has 71 blocks of 57 granules: these, from a high one down to a low one.
+fn falling(high: u64, low: u64) -> Vec<u64> {
+    (low..=high).rev().map(|block| 3 + 57 * block).collect()
+}
+
+/// The arena's one page, wholly out; blocks 1 to `last` are released, 64 of them taken, then the others.
+fn taken_again(last: u64) {
+    let mut heap = Heap::open(1);
+    assert_eq!(heap.take(Family::Small, 21, ALL), Ok((falling(63, 0), true)));
+    assert_eq!(heap.take(Family::Small, 21, ALL), Ok((falling(70, 64), true)));
+    let released: Vec<u64> = falling(last, 1).into_iter().rev().collect();
+    assert_eq!(heap.give(Family::Small, 21, ALL, &released), Ok(0));
+    assert_eq!(heap.take(Family::Small, 21, ALL), Ok((falling(64, 1), false)));
+    assert_eq!(heap.take(Family::Small, 21, ALL), Ok((falling(last, 65), false)));
+    assert_eq!(heap.take(Family::Small, 21, ALL), Ok((vec![], false)));
+}
+
+#[test]
+fn what_a_take_leaves_free_on_a_carved_page_is_taken_next() {
+    taken_again(70);
+}
+
+#[test]
+fn so_is_one_block_alone() {
+    taken_again(65);
+    // Two spans of ten blocks, five of the first back and six of the second, which heads the list.
+    let mut heap = Heap::open(6);
+    for first in [4, 12_292] {
+        assert_eq!(heap.take(Family::Medium, 0, ALL).expect("medium class 0").0[0], first);
+    }
+    assert_eq!(heap.give(Family::Medium, 0, ALL, &[4, 1_156, 2_308, 3_460, 4_612]), Ok(0));
+    assert_eq!(heap.give(Family::Medium, 0, ALL, &[12_292, 13_444, 14_596, 15_748, 16_900, 18_052]), Ok(0));
+    let ten = vec![3_460, 2_308, 1_156, 4, 18_052, 16_900, 15_748, 14_596, 13_444, 12_292];
+    assert_eq!(heap.take(Family::Medium, 0, ALL), Ok((ten, false)));
+    assert_eq!(heap.take(Family::Medium, 0, ALL), Ok((vec![4_612], false)));
+}

@@ -70,3 +70,27 @@ fn chunks_give_their_runs_in_order() {
     assert_eq!(heap.give_chunks(CLASS, &list, &[(3, 2), (3, 0)], 2), Ok(vec![6, 6]));
     assert_eq!(holes(&heap), [(2, 1), (0, 1)]);
 }
+
+#[test]
+fn a_page_that_a_chunk_came_back_to_is_not_virgin() {
+    let mut heap = Heap::open(4);
+    let (blocks, virgin) = heap.take(Family::Small, 0, ALL).expect("class 0");
+    assert_eq!((blocks[0], blocks[63], virgin), (66, 3, true));
+    // 61 are still out, and the page has more than it was asked for so far.
+    assert_eq!(heap.give_chunks(0, &[66, 65, 64], &[(3, 0)], 1), Ok(vec![0]));
+    let expected = (67..=127).rev().chain([64, 65, 66]).collect();
+    assert_eq!(heap.take(Family::Small, 0, ALL), Ok((expected, false)));
+}
+
+#[test]
+fn of_two_chunks_that_give_the_first_is_stored_where_one_fits() {
+    // No page is kept. The holes have 65,535 pages, so that one more is stored, and another abandoned.
+    let mut heap = Heap::open_with(65_540, &[0, 75, 0, 0]);
+    assert_eq!(heap.commit(ALL, 65_535), Ok(Some((0, true))));
+    let pages: Vec<_> = (0..3).map(|_| heap.take(Family::Small, CLASS, ALL).expect("class 45").0).collect();
+    assert_eq!(heap.release(ALL, 0, 65_535), Ok(()));
+    let list = [&pages[0][..], &pages[2]].concat();
+    assert_eq!(heap.give_chunks(CLASS, &list, &[(3, 65_537), (3, 65_535)], 2), Ok(vec![6, 6]));
+    assert_eq!(heap.report(), [4, 0, 1, 1, 65_538, 0]);
+    assert_eq!(heap.commit(ALL, 1), Ok(Some((65_537, false))));
+}

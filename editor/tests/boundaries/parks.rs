@@ -109,3 +109,21 @@ fn the_limits_count_one_class_alone() {
         assert_eq!(fill_and_empty(&mut heap, Family::Small, class, 5), [0, 0, 0, 0, 1]);
     }
 }
+
+#[test]
+fn an_empty_run_waits_for_the_partial_ones() {
+    // Of the second run all blocks are back, of the first one.
+    let mut heap = Heap::open(2);
+    let pages = [0, 1].map(|_| all(&mut heap, Family::Small, 45));
+    assert_eq!(heap.give(Family::Small, 45, ALL, &pages[1]), Ok(0));
+    assert_eq!(heap.give(Family::Small, 45, ALL, &[3]), Ok(0));
+    assert_eq!(heap.take(Family::Small, 45, ALL), Ok((vec![3], false)));
+    assert_eq!(heap.take(Family::Small, 45, ALL), Ok((vec![4_099, 5_123, 6_147], false)));
+    let mut heap = Heap::open(6);
+    let spans = [0, 1].map(|_| all(&mut heap, Family::Medium, 0));
+    assert_eq!(heap.give(Family::Medium, 0, ALL, &spans[1]), Ok(0));
+    assert_eq!(heap.give(Family::Medium, 0, ALL, &[4]), Ok(0));
+    assert_eq!(heap.take(Family::Medium, 0, ALL), Ok((vec![4], false)));
+    let back = (0..10).rev().map(|block| 12_292 + 1_152 * block).collect();
+    assert_eq!(heap.take(Family::Medium, 0, ALL), Ok((back, false)));
+}
