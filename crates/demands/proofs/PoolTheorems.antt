@@ -41,7 +41,7 @@ use Rattle.pool.specs.way.Claims.{answerTo}
 use Rattle.pool.proofs.Apart.{pool-disjoint}
 use Rattle.pool.proofs.Frees.{frees, unchanged}
 use Rattle.pool.proofs.OnHeap.{on-heap}
-use Rattle.pool.proofs.Conserved.{alloc-none, trims, conserved}
+use Rattle.pool.proofs.Conserved.{allocs, trims, conserved}
 use Rattle.pool.proofs.Alone.{pool-alone}
 use Rattle.poolcalls.specs.Stock.{countIn, stockFrom, stockIn, stocked}
 use Rattle.poolcalls.specs.Calls.{grantedIn, trimOn}
@@ -58,7 +58,7 @@ use Rattle.poolrefinement.proofs.Runs.{stands}
 use Rattle.demands.specs.Call.{call}
 use Rattle.demands.specs.Run.{Opens, bookAfter}
 use Rattle.demands.specs.way.PoolStands.{PoolStands}
-use Rattle.demands.specs.Pool.{poolRun, poolBook, recorded, poolRecorded, poolObserved, FreeAnswers, TrimAnswers, PoolAt, PoolDemand}
+use Rattle.demands.specs.Pool.{poolRun, poolBook, recorded, poolRecorded, poolObserved, AllocAnswers, FreeAnswers, TrimAnswers, PoolAt, PoolDemand}
 use Rattle.demands.proofs.Calls.{room, no-fault, call-is}
 use Rattle.demands.proofs.Histories.{run-represents}
 use Rattle.demands.proofs.Observed.{bare, bare-live, live-bare, bare-disjoint}
@@ -132,30 +132,37 @@ module _ (n : ℕ) (rows b : List ℕ) (o : Opens n rows b) (xs : List PoolCall)
   in-out : (c w : ℕ) → OutIn (poolObserved n rows b xs) c w → OutIn vs c w
   in-out c w u = bare-out vs c w (rw (observed-is n rows b o xs) at u)
 
-  free-answers : (c h w : ℕ) → FreeAnswers d (poolObserved n rows b xs) c h w
-  free-answers c h w =
+  free-answers : (c h w : ℕ) → badHost h ≡ false → ltb c classCount ≡ true → FreeAnswers d (poolObserved n rows b xs) c h w
+  free-answers c h w ok low =
       let a = answer-is c (free h w) in
       let f = frees n few (rulesOf rows) xs c h w in
       record {
-        host = λ e. a ∙ f .host e;
-        class = λ ok e. a ∙ f .class ok e;
-        done = λ ok low. ((λ e. out-in c w (f .done ok low .0 (sym a ∙ e))), (λ u. a ∙ f .done ok low .1 (in-out c w u)));
-        kind = λ ok low k. a ∙ f .kind ok low k;
-        stale = λ ok low k no. a ∙ f .stale ok low k (λ u. no (out-in c w u));
+        done = ((λ e. out-in c w (f .done ok low .0 (sym a ∙ e))), (λ u. a ∙ f .done ok low .1 (in-out c w u)));
+        kind = λ k. a ∙ f .kind ok low k;
+        stale = λ k ne. a ∙ f .stale ok low k (λ u. ne (out-in c w u));
       }
 
   stock-is : (c : ℕ) → ltb c classCount ≡ true → stockIn d c ≡ P .stock c
   stock-is c hc = rep .stocks c hc .same
 
-  none-answers : (c h : ℕ) → badHost h ≡ false → ltb c classCount ≡ true
-      → (poolOn d c (alloc h) .answer ≡ noBlock) ↔ ((stockIn d c ≡ []) × Spent (events n (rulesOf rows) made) c × (Arenas.commit n h (shapeOf c .pages) (loadArena d) .run ≡ none))
-  none-answers c h ok low =
+  -- the stock after a request
+  stock-after : (c : ℕ) (x : PoolRequest) → ltb c classCount ≡ true → stockIn (poolOn d c x .book) c ≡ poolStep n P (to c x) .pool .stock c
+  stock-after c x low =
+      ap (λ s. stockIn (s .book) c) (ask-is n (room n rows b o .some-pages) few d P rep c x) ∙ pool-agrees n few (rulesOf rows) xs d rep c x .pool .stocks c low .same
+
+  alloc-answers : (c h : ℕ) → badHost h ≡ false → ltb c classCount ≡ true → AllocAnswers n rows d (poolObserved n rows b xs) made c h
+  alloc-answers c h ok low =
       let a = answer-is c (alloc h) in
-      let f = alloc-none n few (rulesOf rows) xs c h .none ok low in
-      let runs = ap (λ g. Arenas.commit n h (shapeOf c .pages) g .run) (rep .heap .arena .loads) in (
-        (λ e. let t = f .0 (sym a ∙ e) in (stock-is c low ∙ t .0, t .1, runs ∙ t .2)),
-        (λ t. a ∙ f .1 (sym (stock-is c low) ∙ t .0, t .1, sym runs ∙ t .2)),
-      )
+      let f = allocs n few (rulesOf rows) xs c h ok low in
+      let runs = ap (λ g. Arenas.commit n h (shapeOf c .pages) g .run) (rep .heap .arena .loads) in
+      record {
+        none = (
+          (λ e. let t = f .none .0 (sym a ∙ e) in (stock-is c low ∙ t .0, t .1, runs ∙ t .2)),
+          (λ t. a ∙ f .none .1 (sym (stock-is c low) ∙ t .0, t .1, sym runs ∙ t .2)),
+        );
+        some = λ ne. let g = f .some (λ e. ne (a ∙ e)) in (g .0, a ∙ g .1, λ u. g .2 (in-out c (g .0) u));
+        top = λ w ws e. let v = f .top w ws (sym (stock-is c low) ∙ e) in (a ∙ v .0, stock-after c (alloc h) low ∙ v .1);
+      }
 
   -- the heap's test of a block
   out-test : (c w : ℕ) → ltb c classCount ≡ true → ofKind (shapeOf c .kind) w ≡ true → outAt n d c (shapeOf c) w ≡ outHere (shapeOf c) (P .heap .classes c) w
@@ -173,9 +180,9 @@ module _ (n : ℕ) (rows b : List ℕ) (o : Opens n rows b) (xs : List PoolCall)
   grant-kind : (c w : ℕ) → ltb c classCount ≡ true → OutIn (poolObserved n rows b xs) c w → ofKind (shapeOf c .kind) w ≡ true
   grant-kind c w hc u =
       by-cases (ofKind (shapeOf c .kind) w) (λ k. k) (λ k.
-      let f = free-answers c 0 w in
-      let yes = f .done refl hc .1 u in
-      let no = f .kind refl hc k in
+      let f = free-answers c 0 w refl hc in
+      let done = f .done .1 u in
+      let nine = f .kind k in
       let z : _≡_ {A = ℕ} 0 1 = cc in absurd (omega arith))
 
   granted-observed : (c w : ℕ) → (grantedOn d c w ≡ true) ↔ OutIn (poolObserved n rows b xs) c w
@@ -205,12 +212,10 @@ module _ (n : ℕ) (rows b : List ℕ) (o : Opens n rows b) (xs : List PoolCall)
       let a = answer-is c (trim h) in
       let t = trims n few (rulesOf rows) xs c h ok low in
       let asked = ask-is n (room n rows b o .some-pages) few d P rep c (trim h) in
-      let after : stockIn (poolOn d c (trim h) .book) c ≡ poolStep n P (to c (trim h)) .pool .stock c
-      = ap (λ s. stockIn (s .book) c) asked ∙ pool-agrees n few (rulesOf rows) xs d rep c (trim h) .pool .stocks c low .same in
       record {
         none = ((λ e. stock-is c low ∙ t .none .0 (sym a ∙ e)), (λ e. a ∙ t .none .1 (sym (stock-is c low) ∙ e)));
         still = λ e. ap (λ s. s .book) asked ∙ trim-still n d c h ok low e;
-        top = λ w ws e. let v = t .top w ws (sym (stock-is c low) ∙ e) in (a ∙ v .0, after ∙ v .1);
+        top = λ w ws e. let v = t .top w ws (sym (stock-is c low) ∙ e) in (a ∙ v .0, stock-after c (trim h) low ∙ v .1);
       }
 
   holds-after : PoolAt n rows d (poolObserved n rows b xs) made
@@ -218,8 +223,11 @@ module _ (n : ℕ) (rows b : List ℕ) (o : Opens n rows b) (xs : List PoolCall)
       let cons = conserved n few (rulesOf rows) xs in
       record {
         disjoint = rw (observed-is n rows b o xs) (bare-disjoint vs (pool-disjoint n few (rulesOf rows) xs));
+        host = λ c x e. answer-is c x ∙ unchanged n few (rulesOf rows) xs c x .host e;
+        unknown = λ c x ok e. answer-is c x ∙ unchanged n few (rulesOf rows) xs c x .class ok e;
+        allocs = alloc-answers;
         frees = free-answers;
-        none = none-answers;
+        trims = trim-answers;
         made-done = on-heap n few (rulesOf rows) xs .done;
         numbers = λ c x k e. unchanged n few (rulesOf rows) xs c x .low k (sym (answer-is c x) ∙ e);
         valid = λ y e. call-whole n few (rulesOf rows) made d heap (callBy y) .valid (ap (λ r. r .code) (sym (call-reply (callBy y))) ∙ e);
@@ -233,7 +241,6 @@ module _ (n : ℕ) (rows b : List ℕ) (o : Opens n rows b) (xs : List PoolCall)
         class = λ c w u. granted-class d c w (granted-observed c w .1 u);
         stocked = λ c hc. stocked-rep n d c (P .stock c) (rep .stocks c hc) (admitted c hc);
         few = λ c hc. few-rep n d c (P .stock c) (rep .stocks c hc);
-        trimmed = trim-answers;
       }
 
   trims-empty : (c h k : ℕ) → badHost h ≡ false → ltb c classCount ≡ true → length (stockIn d c) ≤ k → stockIn (poolBook n rows b (xs ++ replicate k (to c (trim h)))) c ≡ []
@@ -293,7 +300,7 @@ pub pool-demand : PoolDemand
 pool-demand = record {
   after = holds-after;
   rules = run-is;
-  trims = trims-empty;
+  emptied = trims-empty;
   alone = λ n₁ n₂ rows₁ rows₂ b₁ b₂ o₁ o₂ c lim xs ys e.
       rw (answers-of n₁ rows₁ b₁ o₁ c xs, answers-of n₂ rows₂ b₂ o₂ c ys) (pool-alone n₁ n₂ (rulesOf rows₁) (rulesOf rows₂) c xs ys .alone lim e);
   heapPart = part-is;

@@ -26,7 +26,7 @@ use Rattle.model.specs.Demands.{Disjoint}
 use Rattle.arena.specs.Load.{loadArena}
 use Rattle.calls.specs.Out.{outAt}
 use Rattle.pool.specs.Stock.{stockRoom}
-use Rattle.pool.specs.Pool.{PoolCall, PoolAnswer, PoolRequest, Direct, to, direct, alloc, free, trim, callBy, answered, refused, trimmed, noBlock, freed}
+use Rattle.pool.specs.Pool.{PoolCall, PoolAnswer, PoolRequest, Direct, to, direct, alloc, free, trim, hostIn, callBy, answered, refused, granted, trimmed, noBlock, freed}
 use Rattle.pool.specs.Observed.{PoolEvent, observedOf, poolEvents, heapCalls, poolCallsOf, poolAnswersOf, poolRunsOf}
 use Rattle.poolcalls.specs.Stock.{stockIn}
 use Rattle.poolcalls.specs.Calls.{PoolReply, poolReply}
@@ -61,13 +61,19 @@ poolRecorded n rows b xs = recorded xs (poolRun n rows b xs)
 abbrev pub poolObserved : ℕ → List ℕ → List ℕ → List PoolCall → List Event
 poolObserved n rows b xs = observedOf (poolRecorded n rows b xs)
 
--- numbers 3 and 4; then a free is carried out exactly if its block is a grant of that class not yet freed, and else is number 9 or 10
+-- an alloc answers none exactly if the class has no block in stock, every block of every run of it is out by the heap's calls, and the arena has no run
+-- for it; else it is granted a block that is no grant yet, and with blocks in stock their top, which leaves the others there
+pub record AllocAnswers (n : ℕ) (rows b : List ℕ) (vs : List Event) (made : List Call) (c h : ℕ) : Type 0 where
+  pub none : (poolOn b c (alloc h) .answer ≡ noBlock)
+      ↔ ((stockIn b c ≡ []) × Spent (events n (rulesOf rows) made) c × (Arenas.commit n h (shapeOf c .pages) (loadArena b) .run ≡ none))
+  pub some : (poolOn b c (alloc h) .answer ≡ noBlock → ⊥) → (w : ℕ) × (poolOn b c (alloc h) .answer ≡ granted w) × (OutIn vs c w → ⊥)
+  pub top : (w : ℕ) (ws : List ℕ) → stockIn b c ≡ w ∷ ws → (poolOn b c (alloc h) .answer ≡ granted w) × (stockIn (poolOn b c (alloc h) .book) c ≡ ws)
+
+-- a free is carried out exactly if its block is a grant of that class not yet freed, and else is number 9 or 10
 pub record FreeAnswers (b : List ℕ) (vs : List Event) (c h w : ℕ) : Type 0 where
-  pub host : badHost h ≡ true → poolOn b c (free h w) .answer ≡ refused 3
-  pub class : badHost h ≡ false → ltb c classCount ≡ false → poolOn b c (free h w) .answer ≡ refused 4
-  pub done : badHost h ≡ false → ltb c classCount ≡ true → (poolOn b c (free h w) .answer ≡ freed) ↔ OutIn vs c w
-  pub kind : badHost h ≡ false → ltb c classCount ≡ true → ofKind (shapeOf c .kind) w ≡ false → poolOn b c (free h w) .answer ≡ refused 9
-  pub stale : badHost h ≡ false → ltb c classCount ≡ true → ofKind (shapeOf c .kind) w ≡ true → (OutIn vs c w → ⊥) → poolOn b c (free h w) .answer ≡ refused 10
+  pub done : (poolOn b c (free h w) .answer ≡ freed) ↔ OutIn vs c w
+  pub kind : ofKind (shapeOf c .kind) w ≡ false → poolOn b c (free h w) .answer ≡ refused 9
+  pub stale : ofKind (shapeOf c .kind) w ≡ true → (OutIn vs c w → ⊥) → poolOn b c (free h w) .answer ≡ refused 10
 
 -- a trim answers none exactly if the class has no block in stock, and then leaves the book; else it answers the stock's top, and leaves the others there
 pub record TrimAnswers (b : List ℕ) (c h : ℕ) : Type 0 where
@@ -79,12 +85,12 @@ pub record TrimAnswers (b : List ℕ) (c h : ℕ) : Type 0 where
 pub record PoolAt (n : ℕ) (rows d : List ℕ) (vs : List Event) (made : List Call) : Type 0 where
   -- two grants not yet freed share a byte exactly when they are the same grant; none shares a byte with a page held by hand
   pub disjoint : Disjoint vs
-  pub frees : (c h w : ℕ) → FreeAnswers d vs c h w
-  -- an alloc answers none exactly if the class has no block in stock, every block of every run of it is out by the heap's calls, and the arena has
-  -- no run for it
-  pub none : (c h : ℕ) → badHost h ≡ false → ltb c classCount ≡ true
-      → (poolOn d c (alloc h) .answer ≡ noBlock)
-      ↔ ((stockIn d c ≡ []) × Spent (events n (rulesOf rows) made) c × (Arenas.commit n h (shapeOf c .pages) (loadArena d) .run ≡ none))
+  -- numbers 3 and 4 come first, in every call that names a class; then each is answered
+  pub host : (c : ℕ) (x : PoolRequest) → badHost (hostIn x) ≡ true → poolOn d c x .answer ≡ refused 3
+  pub unknown : (c : ℕ) (x : PoolRequest) → badHost (hostIn x) ≡ false → ltb c classCount ≡ false → poolOn d c x .answer ≡ refused 4
+  pub allocs : (c h : ℕ) → badHost h ≡ false → ltb c classCount ≡ true → AllocAnswers n rows d vs made c h
+  pub frees : (c h w : ℕ) → badHost h ≡ false → ltb c classCount ≡ true → FreeAnswers d vs c h w
+  pub trims : (c h : ℕ) → badHost h ≡ false → ltb c classCount ≡ true → TrimAnswers d c h
   -- the heap's calls that the history makes are a history of document 01's calls, of which none that names a class is refused (`heapPart` below: the heap's
   -- part of the book is what they leave)
   pub made-done : All (λ v. isSome (names (v .call)) ≡ true → isRefused (v .answer) ≡ false) (events n (rulesOf rows) made)
@@ -102,14 +108,13 @@ pub record PoolAt (n : ℕ) (rows d : List ℕ) (vs : List Event) (made : List C
   pub stocked : (c : ℕ) → ltb c classCount ≡ true → stockedOn d c ≡ length (stockIn d c)
   -- no stock holds more than its room
   pub few : (c : ℕ) → ltb c classCount ≡ true → length (stockIn d c) ≤ stockRoom
-  pub trimmed : (c h : ℕ) → badHost h ≡ false → ltb c classCount ≡ true → TrimAnswers d c h
 
 pub record PoolDemand : Type 0 where
   pub after : (n : ℕ) (rows b : List ℕ) → Opens n rows b → (xs : List PoolCall) → PoolAt n rows (poolBook n rows b xs) (poolObserved n rows b xs) (heapCalls n (rulesOf rows) xs)
   -- each call answers what the pool's rules say
   pub rules : (n : ℕ) (rows b : List ℕ) → Opens n rows b → (xs : List PoolCall) → poolRun n rows b xs ≡ map (λ v. v .answer) (poolEvents n (rulesOf rows) xs)
   -- as many trims as there are blocks in stock, or more, leave none there: what is out then is granted
-  pub trims : (n : ℕ) (rows b : List ℕ) → Opens n rows b → (xs : List PoolCall) (c h k : ℕ) → badHost h ≡ false → ltb c classCount ≡ true
+  pub emptied : (n : ℕ) (rows b : List ℕ) → Opens n rows b → (xs : List PoolCall) (c h k : ℕ) → badHost h ≡ false → ltb c classCount ≡ true
       → length (stockIn (poolBook n rows b xs) c) ≤ k → stockIn (poolBook n rows b (xs ++ replicate k (to c (trim h)))) c ≡ []
   -- two openings, two histories, a class with the same limits in both and whose calls are equal: its answers are equal exactly when what the arena gave
   -- it is, worked from the opening over the arguments of all calls (`poolEvents` sees no book)

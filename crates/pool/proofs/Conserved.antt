@@ -1,34 +1,37 @@
--- A block out of the heap is granted or in stock, and each of these once; an alloc that answers none; what a trim answers, and trims that empty a
--- stock.
+-- A block out of the heap is granted or in stock, and each of these once; what an alloc and a trim answer, and trims that empty a stock.
 use Prim.Native.Nat.{ℕ, zero, suc, _+_, _≤_}
 use mathlib.Core.Path.{_≡_, refl, sym, ap, _∙_, subst}
-use mathlib.Core.List.{List, [], _∷_, _++_}
+use mathlib.Core.List.{List, [], _∷_, _++_, reverse}
 use mathlib.Core.Bool.{Bool, true, false}
 use mathlib.Core.Logic.{_↔_, inl, inr}
 use native.Mathlib.Omega.{arith}
 use lib.Dec.{ltb}
 use lib.ListN.{length, drop, replicate}
 use borrow.Author.Tests.{eq-eqb}
-use Rattle.facts.specs.Lists.{count, distinct, elem}
+use Rattle.facts.specs.Lists.{count, distinct, elem, total}
 use Rattle.facts.proofs.Bools.{by-cases}
 use Rattle.words.specs.Limits.{maxPages}
 use Rattle.words.specs.Host.{badHost}
 use Rattle.classes.specs.Shape.{shapeOf, classCount}
 use Rattle.classes.proofs.Shapes.{shape-sound}
 use Rattle.rules.specs.Rules.{Rules}
+use Rattle.model.specs.Calls.{take, blocksOf}
 use Rattle.model.specs.Entries.{Entry}
 use Rattle.model.specs.Heap.{Heap}
 use Rattle.model.specs.History.{events}
 use Rattle.model.specs.Offered.{Spent, NoneListed}
 use Rattle.model.specs.Yields.{Listed}
 use Rattle.model.proofs.Counts.{elem-count, count-elem, count-not}
+use Rattle.model.proofs.EntryCounts.{is}
 use Rattle.model.proofs.Sites.{here-out}
 use Rattle.model.proofs.Theorems.{yielding, offered}
-use Rattle.pool.specs.Pool.{Pool, newPool, PoolCall, to, trim, poolStep, plan, planTrim, carry, ends, firstOf, noBlock}
-use Rattle.pool.specs.Observed.{observedOf, poolEvents, poolFrom, poolAfter, heapCalls}
-use Rattle.pool.specs.way.Claims.{AllocNone, Trims, Conserved}
+use Rattle.pool.specs.Stock.{blank}
+use Rattle.pool.specs.Pool.{Pool, newPool, PoolCall, PoolAnswer, to, alloc, trim, poolStep, plan, planAlloc, planTrim, carry, ends, bring, firstOf, granted, noBlock}
+use Rattle.pool.specs.Observed.{asAnswer, observedOf, poolEvents, poolFrom, poolAfter, heapCalls}
+use Rattle.pool.specs.way.Claims.{Allocs, Trims, Conserved}
 use Rattle.pool.proofs.Kept.{PoolInv, PoolKept, pool-kept, call-kept, at-most}
-use Rattle.pool.proofs.Frees.{out-there, stock-out, gives, observed-out, out-observed, none-when}
+use Rattle.pool.proofs.Lives.{next, own-stay, names-take}
+use Rattle.pool.proofs.Frees.{out-there, stock-out, gives, observed-out, out-observed, took, took-done, none-when}
 use Rattle.pool.proofs.OnHeap.{on-heap}
 
 pub pool-append : (size : ℕ) (P : Pool) (xs ys : List PoolCall) → poolFrom size P (xs ++ ys) ≡ poolFrom size (poolFrom size P xs) ys
@@ -45,13 +48,41 @@ spent-after size small rules xs c =
     let ys = heapCalls size rules xs in
     subst (λ (H : Heap). Spent (events size rules ys) c ↔ NoneListed (H .classes c)) (sym (on-heap size small rules xs .heap)) (offered size rules ys .spent c)
 
-pub alloc-none : (size : ℕ) → size ≤ maxPages → (rules : Rules) (xs : List PoolCall) (c h : ℕ) → AllocNone size rules xs c h
-alloc-none size small rules xs c h = record {
-  none = λ ok low.
-      let f = none-when size (poolAfter size rules xs) c h ok low (listed-after size small rules xs c) in
-      let u = spent-after size small rules xs c in
-      ((λ e. let t = f .0 e in (t .0, u .1 (t .1), t .2)), (λ t. f .1 (t .0, u .0 (t .1), t .2)));
-}
+-- ---- allocs
+some-brought : (a : PoolAnswer) (bs : List ℕ) → a ≡ bring bs .answer → (a ≡ noBlock → ⊥) → (w : ℕ) × (a ≡ granted w)
+some-brought a [] e ne = absurd (ne e)
+some-brought a (w ∷ ws) e ne = (w, e)
+
+module _ (size : ℕ) (c h : ℕ) (ok : badHost h ≡ false) (low : ltb c classCount ≡ true) (P : Pool) where
+  grants : (st : List ℕ) → P .stock c ≡ st → (poolStep size P (to c (alloc h)) .answer ≡ noBlock → ⊥) → (w : ℕ) × (poolStep size P (to c (alloc h)) .answer ≡ granted w)
+  unfolding poolStep plan planAlloc carry ends
+  grants [] e ne = some-brought _ (reverse (blocksOf (took size P c h .answer))) (rw (ok, low, e, took-done size P c h ok low)) ne
+  grants (w ∷ ws) e ne = (w, rw (ok, low, e))
+
+  popped : (w : ℕ) (ws : List ℕ) → P .stock c ≡ w ∷ ws → (poolStep size P (to c (alloc h)) .answer ≡ granted w) × (poolStep size P (to c (alloc h)) .pool .stock c ≡ ws)
+  unfolding poolStep plan planAlloc carry
+  popped w ws e = (rw (ok, low, e), rw (ok, low, e, eq-eqb c c refl))
+
+  -- the block was no grant: it would be out twice
+  new-grant : (n k : ℕ) (es gs : List Entry) (f : ℕ → Bool) (l : ℕ → ℕ) → PoolInv size n k P es gs f l → (w : ℕ) → poolStep size P (to c (alloc h)) .answer ≡ granted w → total (is c w) gs ≡ 0
+  new-grant n k es gs f l K w e =
+      let I = call-kept size n k P es gs f l K (to c (alloc h)) .holds in
+      let s = rw (names-take c h blank low, e) at (I .split c w) in
+      let t : total (is c w) (next k c (take h blank) (asAnswer (granted w)) gs) ≡ total (is c w) gs + 1 = own-stay k c (take h blank) (asAnswer (granted w)) gs w refl ∙ rw (eq-eqb w w refl) in
+      omega (arith, s, t, at-most (I .inv) c w)
+
+pub allocs : (size : ℕ) → size ≤ maxPages → (rules : Rules) (xs : List PoolCall) (c h : ℕ) → badHost h ≡ false → ltb c classCount ≡ true → Allocs size rules xs c h
+allocs size small rules xs c h ok low =
+    let vs = observedOf (poolEvents size rules xs) in
+    let P = poolAfter size rules xs in
+    let f = none-when size P c h ok low (listed-after size small rules xs c) in
+    let u = spent-after size small rules xs c in
+    record {
+      none = ((λ e. let t = f .0 e in (t .0, u .1 (t .1), t .2)), (λ t. f .1 (t .0, u .0 (t .1), t .2)));
+      some = λ ne. let g = grants size c h ok low P (P .stock c) refl ne in
+          (g .0, g .1, λ o. omega (arith, out-observed vs c (g .0) o, new-grant size c h ok low P _ _ _ _ _ _ (pool-kept size rules xs .kept .holds) (g .0) (g .1)));
+      top = popped size c h ok low P;
+    }
 
 -- ---- trims
 rest-few : (s : List ℕ) (k : ℕ) → length s ≤ suc k → length (drop 1 s) ≤ k

@@ -39,7 +39,7 @@ use Rattle.model.proofs.Sites.{out-here}
 use Rattle.model.proofs.Apart.{entry-kind}
 use Rattle.model.proofs.Yields.{served-yields, thawed-more, new-more}
 use Rattle.pool.specs.Stock.{stockMost, blank}
-use Rattle.pool.specs.Pool.{Pool, PoolCall, Plan, PoolRequest, to, alloc, free, turn, poolStep, carry, plan, planFree, planAlloc, isGranted, bring, ends, callFor, refused, noBlock, freed, trimmed}
+use Rattle.pool.specs.Pool.{Pool, PoolCall, Plan, PoolRequest, to, alloc, free, turn, hostIn, poolStep, carry, plan, planFree, planAlloc, isGranted, bring, ends, callFor, refused, noBlock, freed, trimmed}
 use Rattle.pool.specs.Observed.{observedOf, poolEvents, poolAfter}
 use Rattle.pool.specs.way.Claims.{Frees, Unchanged}
 use Rattle.pool.proofs.Kept.{PoolInv, pool-kept, at-most, grant-one}
@@ -88,14 +88,6 @@ module _ (size : ℕ) (small : size ≤ maxPages) (n k : ℕ) (P : Pool) (es gs 
 
 -- ---- a free that is refused
 module _ (size : ℕ) (P : Pool) (c h w : ℕ) where
-  free-host : badHost h ≡ true → poolStep size P (to c (free h w)) .answer ≡ refused 3
-  unfolding poolStep plan carry
-  free-host e = rw e
-
-  free-class : badHost h ≡ false → ltb c classCount ≡ false → poolStep size P (to c (free h w)) .answer ≡ refused 4
-  unfolding poolStep plan carry
-  free-class e u = rw (e, u)
-
   free-kind : badHost h ≡ false → ltb c classCount ≡ true → ofKind (shapeOf c .kind) w ≡ false → poolStep size P (to c (free h w)) .answer ≡ refused 9
   unfolding poolStep plan planFree carry
   free-kind e u k = rw (e, u, k)
@@ -125,8 +117,6 @@ frees size small rules xs c h w =
     let P = poolAfter size rules xs in
     let K = pool-kept size rules xs .kept in
     record {
-      host = free-host size P c h w;
-      class = free-class size P c h w;
       done = λ ok low. (
         (λ e. observed-out vs c w (omega (arith, free-only size small _ _ P _ _ _ _ (K .holds) c w h (planned c (P .heap .classes c) (P .stock c) (free h w)) e))),
         (λ o. free-done size small _ _ P _ _ _ _ (K .holds) c w h ok low (out-observed vs c w o)),
@@ -237,9 +227,21 @@ turned-still : (size : ℕ) (P : Pool) (c : ℕ) (x : PoolRequest) (p : Plan) (m
 unfolding carry
 turned-still size P c x p m e = rw e (refl, refl)
 
+-- numbers 3 and 4
+module _ (size : ℕ) (P : Pool) (c : ℕ) (x : PoolRequest) where
+  turned-host : badHost (hostIn x) ≡ true → poolStep size P (to c x) .answer ≡ refused 3
+  unfolding poolStep plan carry
+  turned-host e = rw e
+
+  turned-class : badHost (hostIn x) ≡ false → ltb c classCount ≡ false → poolStep size P (to c x) .answer ≡ refused 4
+  unfolding poolStep plan carry
+  turned-class e u = rw (e, u)
+
 pub unchanged : (size : ℕ) → size ≤ maxPages → (rules : Rules) (xs : List PoolCall) (c : ℕ) (x : PoolRequest) → Unchanged size rules xs c x
 unfolding poolStep
 unchanged size small rules xs c x = record {
   same = λ n e. turned-still size (poolAfter size rules xs) c x _ n (refused-turn size small _ _ _ _ _ _ _ (pool-kept size rules xs .kept .holds) c n (planned c _ _ x) e);
   low = λ n e. plan-low c _ _ x n (refused-turn size small _ _ _ _ _ _ _ (pool-kept size rules xs .kept .holds) c n (planned c _ _ x) e);
+  host = turned-host size (poolAfter size rules xs) c x;
+  class = turned-class size (poolAfter size rules xs) c x;
 }

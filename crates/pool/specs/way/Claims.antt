@@ -18,7 +18,7 @@ use Rattle.model.specs.History.{events, heapAfter}
 use Rattle.model.specs.Entries.{OutIn}
 use Rattle.model.specs.Offered.{Spent}
 use Rattle.model.specs.Demands.{Disjoint}
-use Rattle.pool.specs.Pool.{PoolCall, PoolRequest, PoolAnswer, to, alloc, free, trim, poolStep, refused, trimmed, noBlock, freed}
+use Rattle.pool.specs.Pool.{PoolCall, PoolRequest, PoolAnswer, to, alloc, free, trim, hostIn, poolStep, refused, granted, trimmed, noBlock, freed}
 use Rattle.pool.specs.Observed.{poolEvents, poolAfter, heapCalls, observedOf, poolCallsOf, poolAnswersOf, poolRunsOf}
 
 -- two grants not yet freed share a byte exactly when they are the same grant, and none has a byte of a page held by hand
@@ -35,22 +35,23 @@ pub record OnHeap (size : ℕ) (rules : Rules) (xs : List PoolCall) : Type 0 whe
 abbrev pub answerTo : ℕ → Rules → List PoolCall → ℕ → PoolRequest → PoolAnswer
 answerTo size rules xs c x = poolStep size (poolAfter size rules xs) (to c x) .answer
 
--- numbers 3 and 4; then a free is carried out exactly if its block is a grant of that class not yet freed, and else is number 9 or 10
+-- a free is carried out exactly if its block is a grant of that class not yet freed, and else is number 9 or 10
 pub record Frees (size : ℕ) (rules : Rules) (xs : List PoolCall) (c h w : ℕ) : Type 0 where
-  pub host : badHost h ≡ true → answerTo size rules xs c (free h w) ≡ refused 3
-  pub class : badHost h ≡ false → ltb c classCount ≡ false → answerTo size rules xs c (free h w) ≡ refused 4
   pub done : badHost h ≡ false → ltb c classCount ≡ true → (answerTo size rules xs c (free h w) ≡ freed) ↔ OutIn (observedOf (poolEvents size rules xs)) c w
   pub kind : badHost h ≡ false → ltb c classCount ≡ true → ofKind (shapeOf c .kind) w ≡ false → answerTo size rules xs c (free h w) ≡ refused 9
   pub stale : badHost h ≡ false → ltb c classCount ≡ true → ofKind (shapeOf c .kind) w ≡ true → (OutIn (observedOf (poolEvents size rules xs)) c w → ⊥)
       → answerTo size rules xs c (free h w) ≡ refused 10
 
 -- an alloc answers none exactly if the class has no block in stock, every block of every run of it is out by the heap's calls, and the arena
--- has no run for it
-pub record AllocNone (size : ℕ) (rules : Rules) (xs : List PoolCall) (c h : ℕ) : Type 0 where
-  pub none : badHost h ≡ false → ltb c classCount ≡ true
-      → (answerTo size rules xs c (alloc h) ≡ noBlock)
+-- has no run for it; else it is granted a block that is no grant yet, and with blocks in stock their top, which leaves the others
+pub record Allocs (size : ℕ) (rules : Rules) (xs : List PoolCall) (c h : ℕ) : Type 0 where
+  pub none : (answerTo size rules xs c (alloc h) ≡ noBlock)
       ↔ ((poolAfter size rules xs .stock c ≡ []) × Spent (events size rules (heapCalls size rules xs)) c
       × (Arenas.commit size h (shapeOf c .pages) (poolAfter size rules xs .heap .arena) .run ≡ none))
+  pub some : (answerTo size rules xs c (alloc h) ≡ noBlock → ⊥)
+      → (w : ℕ) × (answerTo size rules xs c (alloc h) ≡ granted w) × (OutIn (observedOf (poolEvents size rules xs)) c w → ⊥)
+  pub top : (w : ℕ) (ws : List ℕ) → poolAfter size rules xs .stock c ≡ w ∷ ws
+      → (answerTo size rules xs c (alloc h) ≡ granted w) × (poolStep size (poolAfter size rules xs) (to c (alloc h)) .pool .stock c ≡ ws)
 
 -- a trim answers none exactly if the class has no block in stock; else the stock's top, and leaves the others
 pub record Trims (size : ℕ) (rules : Rules) (xs : List PoolCall) (c h : ℕ) : Type 0 where
@@ -58,11 +59,13 @@ pub record Trims (size : ℕ) (rules : Rules) (xs : List PoolCall) (c h : ℕ) :
   pub top : (w : ℕ) (ws : List ℕ) → poolAfter size rules xs .stock c ≡ w ∷ ws
       → (answerTo size rules xs c (trim h) ≡ trimmed w) × (poolStep size (poolAfter size rules xs) (to c (trim h)) .pool .stock c ≡ ws)
 
--- a refused call changes nothing, and makes no call of the heap; its number is 3, 4, 9 or 10
+-- a refused call changes nothing, and makes no call of the heap; its number is 3, 4, 9 or 10, and 3 and 4 come first
 pub record Unchanged (size : ℕ) (rules : Rules) (xs : List PoolCall) (c : ℕ) (x : PoolRequest) : Type 0 where
   pub same : (n : ℕ) → answerTo size rules xs c x ≡ refused n
       → (poolStep size (poolAfter size rules xs) (to c x) .pool ≡ poolAfter size rules xs) × (poolStep size (poolAfter size rules xs) (to c x) .calls ≡ [])
   pub low : (n : ℕ) → answerTo size rules xs c x ≡ refused n → elem n (3 ∷ 4 ∷ 9 ∷ 10 ∷ []) ≡ true
+  pub host : badHost (hostIn x) ≡ true → answerTo size rules xs c x ≡ refused 3
+  pub class : badHost (hostIn x) ≡ false → ltb c classCount ≡ false → answerTo size rules xs c x ≡ refused 4
 
 -- a block out of the heap is granted or in stock, and each of these once
 pub record Conserved (size : ℕ) (rules : Rules) (xs : List PoolCall) : Type 0 where
