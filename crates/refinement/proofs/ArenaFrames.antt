@@ -1,6 +1,6 @@
 -- What the arena's steps leave alone, for the class part of the representation.
 --     isStep t             the arena's words but LENGTH, and OWNER of the pages of t: no row, no other word of a page
---     step-row, step-page  so a class's row and a page's other words are as they were
+--     step-row, step-first so a class's row and a page's other words are as they were
 --     names b d x y        page y says that it is of class d's run at x
 --     whole-same           a run is whole as before if below the old frontier its pages are named as before, and no page above it names it
 use Prim.Native.Nat.{ℕ, zero, suc, _+_, _-_, _≤_, _<_}
@@ -21,7 +21,7 @@ use Rattle.model.specs.Heap.{direct}
 use Rattle.arena.specs.Owners.{ownerCode}
 use Rattle.words.specs.Limits.{holeSlots}
 use Rattle.classes.specs.declared.Shape.{Shape}
-use Rattle.fields.specs.Field.{Field, arena, class, hole, page, mark, out, slot, ClassField, PageField, owner, first, frontier, held, arenaOff, pageOff, get, put, words, emptyLimit, coldLimit}
+use Rattle.fields.specs.Field.{Field, arena, class, hole, page, mark, out, slot, ClassField, owner, first, frontier, held, arenaOff, pageOff, get, put, words, emptyLimit, coldLimit}
 use Rattle.fields.proofs.Laws.{get-put-same, length-put}
 use Rattle.fields.proofs.Changes.{Changes, changes-none, changes-put, changes-trans, changes-mono}
 use Rattle.model.specs.Arena.{Arena}
@@ -67,23 +67,8 @@ module _ (t : ℕ → Bool) (b b′ : List ℕ) (h : Changes (isStep t) b b′) 
   pub step-rule : (c : ℕ) {lim : Limits} → ltb c 76 ≡ true → RuleRep b c lim → RuleRep b′ c lim
   step-rule c o = rule-kept (step-row emptyLimit c o) (step-row coldLimit c o)
 
-  pub step-page : (k : PageField) (p : ℕ) → eqb (pageOff k) 0 ≡ false → get b′ (page k p) ≡ get b (page k p)
-  step-page k p e = h .kept (page k p) refl (rw e)
-
-  pub step-owner : (x : ℕ) → t x ≡ false → get b′ (page owner x) ≡ get b (page owner x)
-  step-owner x e = h .kept (page owner x) refl e
-
   pub step-first : (x : ℕ) → get b′ (page first x) ≡ get b (page first x)
   step-first x = h .kept (page first x) refl refl
-
-  pub step-out : (p i : ℕ) → ltb i 4096 ≡ true → get b′ (out p i) ≡ get b (out p i)
-  step-out p i o = h .kept (out p i) o refl
-
-  pub step-mark : (p j : ℕ) → ltb j 128 ≡ true → get b′ (mark p j) ≡ get b (mark p j)
-  step-mark p j o = h .kept (mark p j) o refl
-
-  pub step-slot : (p i : ℕ) → ltb i 4096 ≡ true → get b′ (slot p i) ≡ get b (slot p i)
-  step-slot p i o = h .kept (slot p i) o refl
 
 -- ---- owners
 and-mono : (s t u : Bool) → (t ≡ true → u ≡ true) → (s && t) ≡ true → (s && u) ≡ true
@@ -221,36 +206,6 @@ given-changes b q m l =
 -- ---- runs
 abbrev pub names : List ℕ → ℕ → ℕ → ℕ → Bool
 names b d x y = eqb (get b (page owner y)) (suc d) && eqb (get b (page first y)) x
-
--- every page of a run that is whole names it
-pub whole-names : (n : ℕ) (b : List ℕ) (sh : Shape) (d x y : ℕ) → whole n b sh d x ≡ true → inRun (sh .pages) x y ≡ true → names b d x y ≡ true
-unfolding whole
-whole-names n b sh d x y e r =
-    let l = leb-true x y (and-left (leb x y) (ltb y (x + sh .pages)) r) in
-    let u = ltb-true y (x + sh .pages) (and-right (leb x y) (ltb y (x + sh .pages)) r) in
-    let ends = leb (x + sh .pages) (get b (arena frontier)) in
-    let pages = every (ofRun b d x) (below (sh .pages)) in
-    let all = and-right ends pages (and-right (leb (x + sh .pages) n) (ends && pages) e) in
-    let z : x + (y - x) ≡ y = omega arith in
-    rw z at (every-at (ofRun b d x) (sh .pages) (y - x) all (omega arith))
-
-pub named-whole : (n : ℕ) (b : List ℕ) (sh : Shape) (d x : ℕ) → x + sh .pages ≤ n → x + sh .pages ≤ get b (arena frontier)
-    → ((y : ℕ) → inRun (sh .pages) x y ≡ true → names b d x y ≡ true) → whole n b sh d x ≡ true
-unfolding whole
-named-whole n b sh d x l u h = rw (le-leb (x + sh .pages) n l, le-leb (x + sh .pages) (get b (arena frontier)) u) (all (sh .pages) (omega arith))
-  where
-    all : (j : ℕ) → j ≤ sh .pages → every (ofRun b d x) (below j) ≡ true
-    all zero v = refl
-    all (suc j) v = rw (h (x + j) (rw (le-leb x (x + j) (omega arith), lt-ltb (x + j) (x + sh .pages) (omega arith)))) (all j (omega arith))
-
-pub whole-ends : (n : ℕ) (b : List ℕ) (sh : Shape) (d x : ℕ) → whole n b sh d x ≡ true → (x + sh .pages ≤ n) × (x + sh .pages ≤ get b (arena frontier))
-unfolding whole
-whole-ends n b sh d x e =
-    let f = get b (arena frontier) in
-    let inside = leb (x + sh .pages) n in
-    let ends = leb (x + sh .pages) f in
-    let pages = every (ofRun b d x) (below (sh .pages)) in
-    (leb-true (x + sh .pages) n (and-left inside (ends && pages) e), leb-true (x + sh .pages) f (and-left ends pages (and-right inside (ends && pages) e)))
 
 module _ (n : ℕ) (b b′ : List ℕ) (sh : Shape) (d x : ℕ) (some-page : 1 ≤ sh .pages) (rises : get b (arena frontier) ≤ get b′ (arena frontier))
     (under : (y : ℕ) → y < get b (arena frontier) → names b′ d x y ≡ names b d x y)
