@@ -1,6 +1,6 @@
 -- What the arena's steps leave alone, for the class part of the representation.
 --     isStep t             the arena's words but LENGTH, and OWNER of the pages of t: no row, no other word of a page
---     step-row, step-first so a class's row and a page's other words are as they were
+--     step-row, step-first so a class's row and FIRST of every page are as they were
 --     names b d x y        page y says that it is of class d's run at x
 --     whole-same           a run is whole as before if below the old frontier its pages are named as before, and no page above it names it
 use Prim.Native.Nat.{ℕ, zero, suc, _+_, _-_, _≤_, _<_}
