@@ -1,7 +1,7 @@
 -- Clearing out bits: a whole word at once, one stretch after another, and what is read afterwards. Then words of marks likewise.
-use Prim.Native.Nat.{ℕ, zero, suc, _+_, _-_, _*_, _/_, _%_, _^_, _≤_, _<_}
+use Prim.Native.Nat.{ℕ, zero, suc, _+_, _*_, _^_, _≤_, _<_}
 use native.Mathlib.Omega.{arith}
-use native.Mathlib.Nat.{le-refl, add-zero, zero-add, suc-add, zero-mod, mod-one, mod-eq-of-lt, div-one}
+use native.Mathlib.Nat.{add-zero, zero-add, suc-add, mod-eq-of-lt, div-one}
 use native.Mathlib.Numerals.{add-one}
 use native.Mathlib.Decide.{ℕ-discrete, decLe}
 use mathlib.Core.Bool.{Bool, true}
@@ -9,68 +9,33 @@ use mathlib.Core.List.{List}
 use mathlib.Core.Path.{_≡_, refl, sym, ap, _∙_}
 use lib.Dec.{leb, ltb}
 use lib.ListN.{length, getD, set}
-use lib.Pow.{pow-add, shr-shr, mod-pow-add}
-use lib.Seq.{lt-length-set, getD-set-same, set-getD, set-set}
+use lib.Pow.{pow-pos}
 use borrow.Author.Tests.{lt-ltb, ne-eqb}
 use Rattle.fields.specs.Field.{Field, bits, place, mark, out, words, put, get}
 use Rattle.fields.specs.Clear.{clearOut, clearMarks}
-use Rattle.fields.proofs.Parts.{below, read-place-other}
+use Rattle.fields.specs.way.OutBits.{outWord, outsAt}
 use Rattle.fields.proofs.Laws.{length-put, get-put-same, get-put-other, put-comm}
 use Rattle.fields.proofs.Changes.{Changes, changes-put}
-
-taken : (w x y a c : ℕ) → y ≡ x * 2 → w - a * x + 0 * x - c * y + 0 * y ≡ w - (c * 2 + a) * x + 0 * x
-taken w x y a c e = rw e (omega arith)
-
--- one bit and the k above it
-join : (s k w : ℕ) → place (bits (s + 1) k) (place (bits s 1) w 0) 0 ≡ place (bits s (k + 1)) w 0
-join s k w =
-    let z : (n : ℕ) → 0 % 2 ^ n ≡ 0 = λ n. zero-mod (2 ^ n) in
-    let e : place (bits s 1) w 0 / 2 ^ (s + 1) % 2 ^ k ≡ w / 2 ^ (s + 1) % 2 ^ k = read-place-other w 0 (below (le-refl (s + 1))) in
-    let d : w / 2 ^ s % 2 ^ (k + 1) ≡ w / 2 ^ (s + 1) % 2 ^ k * 2 ^ 1 + w / 2 ^ s % 2 ^ 1 = mod-pow-add (w / 2 ^ s) k 1 ∙ rw shr-shr in
-    rw (e, d, z 1, z k, z (k + 1)) (taken w (2 ^ s) (2 ^ (s + 1)) (w / 2 ^ s % 2 ^ 1) (w / 2 ^ (s + 1) % 2 ^ k) (pow-add 2 s 1))
-
-none : (s w : ℕ) → place (bits s 0) w 0 ≡ w
-none s w = rw (mod-one (w / 2 ^ s)) (omega arith)
-
-every : (w : ℕ) → w < 2 ^ 32 → place (bits 0 32) w 0 ≡ 0
-every w h = rw (div-one, mod-eq-of-lt h) (omega arith)
-
--- the out bits of blocks 32 j to 32 j + 31 are one word
-module _ (p j : ℕ) where
-  first-bit : (s i : ℕ) (b : List ℕ) → i ≡ 32 * j + s → s < 32
-      → put b (out p i) 0 ≡ set b (40016 + 4112 * p + j) (place (bits s 1) (getD b (40016 + 4112 * p + j) 0) 0)
-  unfolding put
-  first-bit s i b e h =
-      let d : i / 32 ≡ j = omega arith in
-      let m : i % 32 ≡ s = omega arith in
-      rw (d, m)
-
-  -- k bits of it, from s on
-  stretch : (k s i : ℕ) (b : List ℕ) → i ≡ 32 * j + s → s + k ≤ 32 → 40016 + 4112 * p + j < length b
-      → clearOut b p i k ≡ set b (40016 + 4112 * p + j) (place (bits s k) (getD b (40016 + 4112 * p + j) 0) 0)
-  unfolding clearOut
-  stretch zero s i b e h l = sym (ap (set b (40016 + 4112 * p + j)) (none s _) ∙ set-getD b (40016 + 4112 * p + j) 0)
-  stretch (suc k) s i b e h l =
-      let x = 40016 + 4112 * p + j in
-      let w = getD b x 0 in
-      let v = place (bits s 1) w 0 in
-      ap (λ z. clearOut z p (i + 1) k) (first-bit s i b e (omega arith))
-      ∙ stretch k (s + 1) (i + 1) (set b x v) (omega arith) (omega arith) (lt-length-set b x v l)
-      ∙ set-set b x v _
-      ∙ ap (set b x) (ap (λ z. place (bits (s + 1) k) z 0) (getD-set-same b x v 0 l) ∙ join s k w ∙ ap (λ n. place (bits s n) w 0) (add-one k))
-
-  pub cleared : (b b′ : List ℕ) → 40016 + 4112 * p + j < length b → getD b (40016 + 4112 * p + j) 0 < 2 ^ 32
-      → b′ ≡ set b (40016 + 4112 * p + j) 0 → b′ ≡ clearOut b p (32 * j) 32
-  cleared b b′ l h e =
-      e
-      ∙ ap (set b (40016 + 4112 * p + j)) (sym (every (getD b (40016 + 4112 * p + j) 0) h))
-      ∙ sym (stretch 32 0 (32 * j) b (omega arith) (omega arith) l)
+use Rattle.fields.proofs.OutBits.{stretch}
 
 -- one stretch after another
 pub clear-more : (k m p i : ℕ) (b : List ℕ) → clearOut (clearOut b p i k) p (i + k) m ≡ clearOut b p i (k + m)
 unfolding clearOut
 clear-more zero m p i b = rw (add-zero, zero-add)
 clear-more (suc k) m p i b = rw (suc-add) (ap (λ x. clearOut (clearOut (put b (out p i) 0) p (i + 1) k) p x m) (omega arith) ∙ clear-more k m p (i + 1) (put b (out p i) 0))
+
+clear-last : (k p i : ℕ) (b : List ℕ) → clearOut b p i (suc k) ≡ put (clearOut b p i k) (out p (i + k)) 0
+unfolding clearOut
+clear-last k p i b = ap (clearOut b p i) (sym (add-one k)) ∙ sym (clear-more k 1 p i b)
+
+-- the out bits of blocks 32 j to 32 j + 31, which are one word
+pub cleared : (p j : ℕ) (b b′ : List ℕ) → 40016 + 4112 * p + j < length b → getD b (40016 + 4112 * p + j) 0 < 2 ^ 32
+    → b′ ≡ set b (40016 + 4112 * p + j) 0 → b′ ≡ clearOut b p (32 * j) 32
+unfolding clearOut
+cleared p j b b′ l h e =
+    let none : place (bits 0 32) (outsAt b p j) 0 ≡ 0 = rw (div-one, mod-eq-of-lt h) (omega arith) in
+    e ∙ ap (set b (outWord p j)) (sym none)
+    ∙ sym (stretch p j 0 (λ k. 0) pow-pos (λ k. omega arith) 0 (32 * j) (omega arith) (clearOut b p (32 * j)) (λ k. clear-last k p (32 * j) b) l 32 (omega arith))
 
 pub length-clear : (k p i : ℕ) (b : List ℕ) → length (clearOut b p i k) ≡ length b
 unfolding clearOut
