@@ -5,13 +5,14 @@
 --     whole-same           a run is whole as before if below the old frontier its pages are named as before, and no page above it names it
 use Prim.Native.Nat.{ℕ, zero, suc, _+_, _-_, _≤_, _<_}
 use native.Mathlib.Omega.{arith}
+use native.Mathlib.Nat.{add-zero}
 use mathlib.Core.Bool.{Bool, true, false, _&&_, _||_, true≢false, false≢true}
 use mathlib.Core.List.{List}
 use mathlib.Core.Option.{Option, none, some}
 use mathlib.Core.Path.{_≡_, refl, sym, ap, _∙_}
 use lib.Dec.{eqb, ltb, leb}
 use lib.ListN.{length}
-use borrow.Author.Tests.{lt-ltb, ltb-true, ltb-false, le-leb, leb-true, leb-false}
+use borrow.Author.Tests.{ne-eqb, lt-ltb, ltb-true, le-leb, leb-true, leb-false}
 use Rattle.facts.specs.Lists.{every, below}
 use Rattle.facts.proofs.Bools.{by-cases, and-left, and-right, or-left, or-right}
 use Rattle.facts.proofs.Lists.{every-at, every-cong}
@@ -22,7 +23,7 @@ use Rattle.arena.specs.Owners.{ownerCode}
 use Rattle.words.specs.Limits.{holeSlots}
 use Rattle.classes.specs.declared.Shape.{Shape}
 use Rattle.fields.specs.Field.{Field, arena, class, hole, page, mark, out, slot, ClassField, owner, first, frontier, held, arenaOff, pageOff, get, put, words, emptyLimit, coldLimit}
-use Rattle.fields.proofs.Laws.{get-put-same, length-put}
+use Rattle.fields.proofs.Clear.{changes-row, get-row}
 use Rattle.fields.proofs.Changes.{Changes, changes-none, changes-put, changes-trans, changes-mono}
 use Rattle.model.specs.Arena.{Arena}
 use Rattle.model.specs.Arena as Model
@@ -75,15 +76,6 @@ and-mono : (s t u : Bool) → (t ≡ true → u ≡ true) → (s && t) ≡ true 
 and-mono true t u h e = h e
 and-mono false t u h e = e
 
-owner-mono : (t u : ℕ → Bool) → ((x : ℕ) → t x ≡ true → u x ≡ true) → (g : Field) → isOwner t g ≡ true → isOwner u g ≡ true
-owner-mono t u h (arena k) e = e
-owner-mono t u h (mark p j) e = e
-owner-mono t u h (class k c) e = e
-owner-mono t u h (hole k i) e = e
-owner-mono t u h (page k p) e = and-mono (eqb (pageOff k) 0) (t p) (u p) (h p) e
-owner-mono t u h (out p i) e = e
-owner-mono t u h (slot p i) e = e
-
 owner-step : (t u : ℕ → Bool) → ((x : ℕ) → t x ≡ true → u x ≡ true) → (g : Field) → isOwner t g ≡ true → isStep u g ≡ true
 owner-step t u h (arena k) e = absurd (false≢true e)
 owner-step t u h (mark p j) e = e
@@ -102,43 +94,25 @@ stored-step u (page k p) e = absurd (false≢true e)
 stored-step u (out p i) e = absurd (false≢true e)
 stored-step u (slot p i) e = absurd (false≢true e)
 
-in-rest : (m q x : ℕ) → inRun m (suc q) x ≡ true → inRun (suc m) q x ≡ true
-in-rest m q x e =
-    let l = leb-true (suc q) x (and-left (leb (suc q) x) (ltb x (suc q + m)) e) in
-    let u = ltb-true x (suc q + m) (and-right (leb (suc q) x) (ltb x (suc q + m)) e) in
-    rw (le-leb q x (omega arith), lt-ltb x (q + suc m) (omega arith))
-
-in-first : (m q : ℕ) → inRun (suc m) q q ≡ true
-in-first m q = rw (le-leb q q (omega arith), lt-ltb q (q + suc m) (omega arith))
+own-last : (b : List ℕ) (q m w : ℕ) → own b q (suc m) w ≡ put (own b q m w) (page owner (q + m)) w
+unfolding own
+own-last b q zero w = rw add-zero
+own-last b q (suc m) w = own-last (put b (page owner q) w) (suc q) m w ∙ ap (λ y. put (own (put b (page owner q) w) (suc q) m w) (page owner y) w) (omega arith)
 
 pub own-changes : (b : List ℕ) (q m w : ℕ) → Changes (isOwner (inRun m q)) b (own b q m w)
 unfolding own
-own-changes b q zero w = changes-none (isOwner (inRun 0 q)) b
-own-changes b q (suc m) w =
-    let t = isOwner (inRun (suc m) q) in
-    let c = put b (page owner q) w in
-    changes-trans t b c (own c (suc q) m w)
-    (changes-put t b b (page owner q) w refl (in-first m q) (changes-none t b))
-    (changes-mono (isOwner (inRun m (suc q))) t c (own c (suc q) m w) (owner-mono (inRun m (suc q)) (inRun (suc m) q) (in-rest m q)) (own-changes c (suc q) m w))
+own-changes b q m w =
+    changes-row (λ k. page owner (q + k)) w (λ k. own b q k w) (λ k. own-last b q k w) (isOwner (inRun m q)) b m
+    (λ k l. refl) (λ k l. rw (le-leb q (q + k) (omega arith), lt-ltb (q + k) (q + m) (omega arith))) (changes-none (isOwner (inRun m q)) b)
 
 pub own-in : (n : ℕ) (b : List ℕ) (q m w x : ℕ) → leb (words n) (length b) ≡ true → q + m ≤ n → inRun m q x ≡ true → get (own b q m w) (page owner x) ≡ w
 unfolding own
-own-in n b q zero w x hb l e =
-    absurd (let u = leb-true q x (and-left (leb q x) (ltb x (q + 0)) e) in let v = ltb-true x (q + 0) (and-right (leb q x) (ltb x (q + 0)) e) in omega arith)
-own-in n b q (suc m) w x hb l e =
-    let c = put b (page owner q) w in
-    let hc : leb (words n) (length c) ≡ true = rw length-put hb in
-    by-cases (inRun m (suc q) x)
-    (λ d. own-in n c (suc q) m w x hc (omega arith) d)
-    (λ d. own-changes c (suc q) m w .kept (page owner x) refl d ∙ rw (sym (only-first m q x e d)) (get-put-same n b (page owner q) w hb (lt-ltb q n (omega arith)) refl))
-  where
-    only-first : (m q x : ℕ) → inRun (suc m) q x ≡ true → inRun m (suc q) x ≡ false → q ≡ x
-    only-first m q x e d =
-        let l = leb-true q x (and-left (leb q x) (ltb x (q + suc m)) e) in
-        let u = ltb-true x (q + suc m) (and-right (leb q x) (ltb x (q + suc m)) e) in
-        by-cases (leb (suc q) x)
-        (λ k. absurd (let v : ltb x (suc q + m) ≡ false = rw k at d in let y = ltb-false x (suc q + m) v in omega arith))
-        (λ k. let v = leb-false (suc q) x k in omega arith)
+own-in n b q m w x hb h e =
+    let l = leb-true q x (and-left (leb q x) (ltb x (q + m)) e) in
+    let u = ltb-true x (q + m) (and-right (leb q x) (ltb x (q + m)) e) in
+    let z : q + (x - q) ≡ x = omega arith in
+    rw z at (get-row (λ k. page owner (q + k)) w (λ k. own b q k w) (λ k. own-last b q k w) n m (x - q) hb (lt-ltb (q + (x - q)) n (omega arith)) refl
+    (λ k v. refl) (λ k d. ne-eqb (q + k) (q + (x - q)) (λ y. d (omega arith))) (omega arith))
 
 -- a run of an owner, or none
 pub run-changes : (b : List ℕ) (o : Option ℕ) (m w : ℕ) → Changes (isOwner (inRunOf m o)) b (ownRun b o m w)
