@@ -1,136 +1,100 @@
--- Clearing out bits: a whole word at once, one stretch after another, and what is read afterwards. Then words of marks likewise.
-use Prim.Native.Nat.{ℕ, zero, suc, _+_, _-_, _*_, _/_, _%_, _^_, _≤_, _<_}
+-- Clearing out bits and words of marks.
+--     length-row, changes-row, get-row    one value written to field after field: the length, what may have changed, what is read
+--     cleared                             32 out bits that are one word
+--     marks-past-out                      a loop may clear both in turn
+use Prim.Native.Nat.{ℕ, zero, suc, _+_, _-_, _*_, _^_, _≤_, _<_}
 use native.Mathlib.Omega.{arith}
-use native.Mathlib.Nat.{le-refl, add-zero, zero-add, suc-add, zero-mod, mod-one, mod-eq-of-lt, div-one}
+use native.Mathlib.Nat.{add-zero, zero-add, suc-add, mod-eq-of-lt, div-one}
 use native.Mathlib.Numerals.{add-one}
-use native.Mathlib.Decide.{ℕ-discrete, decLe}
-use mathlib.Core.Bool.{Bool, true}
+use native.Mathlib.Decide.{ℕ-discrete}
+use mathlib.Core.Bool.{Bool, true, false}
 use mathlib.Core.List.{List}
 use mathlib.Core.Path.{_≡_, refl, sym, ap, _∙_}
 use lib.Dec.{leb, ltb}
 use lib.ListN.{length, getD, set}
-use lib.Pow.{pow-add, shr-shr, mod-pow-add}
-use lib.Seq.{lt-length-set, getD-set-same, set-getD, set-set}
+use lib.Pow.{pow-pos}
 use borrow.Author.Tests.{lt-ltb, ne-eqb}
-use Rattle.fields.specs.Field.{Field, bits, place, mark, out, words, put, get}
+use Rattle.fields.specs.Field.{Field, bits, place, mark, out, words, put, get, ok, same, inBook, room}
 use Rattle.fields.specs.Clear.{clearOut, clearMarks}
-use Rattle.fields.proofs.Parts.{below, read-place-other}
+use Rattle.fields.specs.way.OutBits.{outWord, outsAt}
 use Rattle.fields.proofs.Laws.{length-put, get-put-same, get-put-other, put-comm}
 use Rattle.fields.proofs.Changes.{Changes, changes-put}
+use Rattle.fields.proofs.OutBits.{stretch}
 
-taken : (w x y a c : ℕ) → y ≡ x * 2 → w - a * x + 0 * x - c * y + 0 * y ≡ w - (c * 2 + a) * x + 0 * x
-taken w x y a c e = rw e (omega arith)
+-- ---- field after field: R k is the book after v is written to F 0 to F (k - 1)
+module _ (F : ℕ → Field) (v : ℕ) (R : ℕ → List ℕ) (next : (k : ℕ) → R (suc k) ≡ put (R k) (F k) v) where
+  pub length-row : (k : ℕ) → length (R k) ≡ length (R 0)
+  length-row zero = refl
+  length-row (suc k) = ap length (next k) ∙ length-put (R k) (F k) v ∙ length-row k
 
--- one bit and the k above it
-join : (s k w : ℕ) → place (bits (s + 1) k) (place (bits s 1) w 0) 0 ≡ place (bits s (k + 1)) w 0
-join s k w =
-    let z : (n : ℕ) → 0 % 2 ^ n ≡ 0 = λ n. zero-mod (2 ^ n) in
-    let e : place (bits s 1) w 0 / 2 ^ (s + 1) % 2 ^ k ≡ w / 2 ^ (s + 1) % 2 ^ k = read-place-other w 0 (below (le-refl (s + 1))) in
-    let d : w / 2 ^ s % 2 ^ (k + 1) ≡ w / 2 ^ (s + 1) % 2 ^ k * 2 ^ 1 + w / 2 ^ s % 2 ^ 1 = mod-pow-add (w / 2 ^ s) k 1 ∙ rw shr-shr in
-    rw (e, d, z 1, z k, z (k + 1)) (taken w (2 ^ s) (2 ^ (s + 1)) (w / 2 ^ s % 2 ^ 1) (w / 2 ^ (s + 1) % 2 ^ k) (pow-add 2 s 1))
+  pub changes-row : (t : Field → Bool) (b : List ℕ) (k : ℕ) → ((j : ℕ) → j < k → ok (F j) ≡ true) → ((j : ℕ) → j < k → t (F j) ≡ true) → Changes t b (R 0) → Changes t b (R k)
+  changes-row t b zero o d c = c
+  changes-row t b (suc k) o d c =
+      rw (next k) (changes-put t b (R k) (F k) v (o k (omega arith)) (d k (omega arith)) (changes-row t b k (λ j l. o j (omega arith)) (λ j l. d j (omega arith)) c))
 
-none : (s w : ℕ) → place (bits s 0) w 0 ≡ w
-none s w = rw (mod-one (w / 2 ^ s)) (omega arith)
+  pub get-row : (n k j : ℕ) → leb (words n) (length (R 0)) ≡ true → inBook n (F j) ≡ true → room (F j) v ≡ true → ((i : ℕ) → i < k → ok (F i) ≡ true)
+      → ((i : ℕ) → (i ≡ j → ⊥) → same (F i) (F j) ≡ false) → j < k → get (R k) (F j) ≡ v
+  get-row n zero j hb hj hv o d l = absurd (omega arith)
+  get-row n (suc k) j hb hj hv o d l =
+      rw (next k)
+      (elim (ℕ-discrete k j) [
+        | yes e ↦ ap (λ x. get (put (R k) (F x) v) (F j)) e ∙ get-put-same n (R k) (F j) v (rw (length-row k) hb) hj hv
+        | no e ↦ get-put-other (R k) (F k) (F j) v (o k (omega arith)) (o j l) (d k e) ∙ get-row n k j hb hj hv (λ i m. o i (omega arith)) d (omega (arith, e))
+      ])
 
-every : (w : ℕ) → w < 2 ^ 32 → place (bits 0 32) w 0 ≡ 0
-every w h = rw (div-one, mod-eq-of-lt h) (omega arith)
-
--- the out bits of blocks 32 j to 32 j + 31 are one word
-module _ (p j : ℕ) where
-  first-bit : (s i : ℕ) (b : List ℕ) → i ≡ 32 * j + s → s < 32
-      → put b (out p i) 0 ≡ set b (40016 + 4112 * p + j) (place (bits s 1) (getD b (40016 + 4112 * p + j) 0) 0)
-  unfolding put
-  first-bit s i b e h =
-      let d : i / 32 ≡ j = omega arith in
-      let m : i % 32 ≡ s = omega arith in
-      rw (d, m)
-
-  -- k bits of it, from s on
-  stretch : (k s i : ℕ) (b : List ℕ) → i ≡ 32 * j + s → s + k ≤ 32 → 40016 + 4112 * p + j < length b
-      → clearOut b p i k ≡ set b (40016 + 4112 * p + j) (place (bits s k) (getD b (40016 + 4112 * p + j) 0) 0)
-  unfolding clearOut
-  stretch zero s i b e h l = sym (ap (set b (40016 + 4112 * p + j)) (none s _) ∙ set-getD b (40016 + 4112 * p + j) 0)
-  stretch (suc k) s i b e h l =
-      let x = 40016 + 4112 * p + j in
-      let w = getD b x 0 in
-      let v = place (bits s 1) w 0 in
-      ap (λ z. clearOut z p (i + 1) k) (first-bit s i b e (omega arith))
-      ∙ stretch k (s + 1) (i + 1) (set b x v) (omega arith) (omega arith) (lt-length-set b x v l)
-      ∙ set-set b x v _
-      ∙ ap (set b x) (ap (λ z. place (bits (s + 1) k) z 0) (getD-set-same b x v 0 l) ∙ join s k w ∙ ap (λ n. place (bits s n) w 0) (add-one k))
-
-  pub cleared : (b b′ : List ℕ) → 40016 + 4112 * p + j < length b → getD b (40016 + 4112 * p + j) 0 < 2 ^ 32
-      → b′ ≡ set b (40016 + 4112 * p + j) 0 → b′ ≡ clearOut b p (32 * j) 32
-  cleared b b′ l h e =
-      e
-      ∙ ap (set b (40016 + 4112 * p + j)) (sym (every (getD b (40016 + 4112 * p + j) 0) h))
-      ∙ sym (stretch 32 0 (32 * j) b (omega arith) (omega arith) l)
-
+-- ---- out bits
 -- one stretch after another
 pub clear-more : (k m p i : ℕ) (b : List ℕ) → clearOut (clearOut b p i k) p (i + k) m ≡ clearOut b p i (k + m)
 unfolding clearOut
 clear-more zero m p i b = rw (add-zero, zero-add)
 clear-more (suc k) m p i b = rw (suc-add) (ap (λ x. clearOut (clearOut (put b (out p i) 0) p (i + 1) k) p x m) (omega arith) ∙ clear-more k m p (i + 1) (put b (out p i) 0))
 
+clear-last : (k p i : ℕ) (b : List ℕ) → clearOut b p i (suc k) ≡ put (clearOut b p i k) (out p (i + k)) 0
+unfolding clearOut
+clear-last k p i b = ap (clearOut b p i) (sym (add-one k)) ∙ sym (clear-more k 1 p i b)
+
+-- the out bits of blocks 32 j to 32 j + 31, which are one word
+pub cleared : (p j : ℕ) (b b′ : List ℕ) → 40016 + 4112 * p + j < length b → getD b (40016 + 4112 * p + j) 0 < 2 ^ 32
+    → b′ ≡ set b (40016 + 4112 * p + j) 0 → b′ ≡ clearOut b p (32 * j) 32
+unfolding clearOut
+cleared p j b b′ l h e =
+    let none : place (bits 0 32) (outsAt b p j) 0 ≡ 0 = rw (div-one, mod-eq-of-lt h) (omega arith) in
+    e ∙ ap (set b (outWord p j)) (sym none)
+    ∙ sym (stretch p j 0 (λ k. 0) pow-pos (λ k. omega arith) 0 (32 * j) (omega arith) (clearOut b p (32 * j)) (λ k. clear-last k p (32 * j) b) l 32 (omega arith))
+
 pub length-clear : (k p i : ℕ) (b : List ℕ) → length (clearOut b p i k) ≡ length b
 unfolding clearOut
-length-clear zero p i b = refl
-length-clear (suc k) p i b = length-clear k p (i + 1) (put b (out p i) 0) ∙ length-put b (out p i) 0
+length-clear k p i b = length-row (λ x. out p (i + x)) 0 (clearOut b p i) (λ x. clear-last x p i b) k
 
--- what is read afterwards: blocks before the stretch as they were, those of it not out
-pub get-clear-before : (k p i j : ℕ) (b : List ℕ) → i + k ≤ 4096 → j < i → get (clearOut b p i k) (out p j) ≡ get b (out p j)
-unfolding clearOut
-get-clear-before zero p i j b h l = refl
-get-clear-before (suc k) p i j b h l =
-    get-clear-before k p (i + 1) j (put b (out p i) 0) (omega arith) (omega arith)
-    ∙ get-put-other b (out p i) (out p j) 0 (lt-ltb i 4096 (omega arith)) (lt-ltb j 4096 (omega arith)) (rw (ne-eqb i j (λ e. omega arith)))
-
+-- what is read afterwards: those blocks are not out
 pub get-clear : (n p : ℕ) → ltb p n ≡ true → (k i j : ℕ) (b : List ℕ) → leb (words n) (length b) ≡ true → i + k ≤ 4096 → i ≤ j → j < i + k
     → get (clearOut b p i k) (out p j) ≡ 0
 unfolding clearOut
-get-clear n p hp zero i j b hb h l m = absurd (omega arith)
-get-clear n p hp (suc k) i j b hb h l m =
-    elim (decLe (i + 1) j) [
-      | yes z ↦ get-clear n p hp k (i + 1) j (put b (out p i) 0) (rw length-put hb) (omega arith) z (omega arith)
-      | no z ↦
-          let e : j ≡ i = omega arith in
-          rw e
-          (get-clear-before k p (i + 1) i (put b (out p i) 0) (omega arith) (omega arith)
-          ∙ get-put-same n b (out p i) 0 hb (rw (lt-ltb i 4096 (omega arith)) hp) refl)
-    ]
+get-clear n p hp k i j b hb h l m =
+    let e : i + (j - i) ≡ j = omega arith in
+    rw e at (get-row (λ x. out p (i + x)) 0 (clearOut b p i) (λ x. clear-last x p i b) n k (j - i) hb (rw (lt-ltb (i + (j - i)) 4096 (omega arith)) hp) refl
+    (λ x u. lt-ltb (i + x) 4096 (omega arith)) (λ x z. rw (ne-eqb (i + x) (i + (j - i)) (λ w. z (omega arith)))) (omega arith))
 
 -- and nothing else is changed
 pub changes-clear : (t : Field → Bool) (b : List ℕ) (k p i : ℕ) (b′ : List ℕ) → i + k ≤ 4096 → ((j : ℕ) → i ≤ j → j < i + k → t (out p j) ≡ true)
     → Changes t b b′ → Changes t b (clearOut b′ p i k)
 unfolding clearOut
-changes-clear t b zero p i b′ h d c = c
-changes-clear t b (suc k) p i b′ h d c =
-    changes-clear t b k p (i + 1) (put b′ (out p i) 0) (omega arith) (λ j l m. d j (omega arith) (omega arith))
-    (changes-put t b b′ (out p i) 0 (lt-ltb i 4096 (omega arith)) (d i (omega arith) (omega arith)) c)
+changes-clear t b k p i b′ h d =
+    changes-row (λ x. out p (i + x)) 0 (clearOut b′ p i) (λ x. clear-last x p i b′) t b k (λ x l. lt-ltb (i + x) 4096 (omega arith)) (λ x l. d (i + x) (omega arith) (omega arith))
 
 -- ---- words of marks
 pub length-clear-marks : (m p : ℕ) (b : List ℕ) → length (clearMarks b p m) ≡ length b
 unfolding clearMarks
-length-clear-marks zero p b = refl
-length-clear-marks (suc m) p b = length-put (clearMarks b p m) (mark p m) 0 ∙ length-clear-marks m p b
+length-clear-marks m p b = length-row (λ x. mark p x) 0 (clearMarks b p) (λ x. refl) m
 
 pub get-clear-marks : (n p : ℕ) → ltb p n ≡ true → (m j : ℕ) (b : List ℕ) → leb (words n) (length b) ≡ true → m ≤ 128 → j < m → get (clearMarks b p m) (mark p j) ≡ 0
 unfolding clearMarks
-get-clear-marks n p hp zero j b hb h l = absurd (omega arith)
-get-clear-marks n p hp (suc m) j b hb h l =
-    let o : ltb m 128 ≡ true = lt-ltb m 128 (omega arith) in
-    elim (ℕ-discrete j m) [
-      | yes e ↦ rw e (get-put-same n (clearMarks b p m) (mark p m) 0 (rw length-clear-marks hb) (rw o hp) refl)
-      | no e ↦
-          get-put-other (clearMarks b p m) (mark p m) (mark p j) 0 o (lt-ltb j 128 (omega arith)) (rw (ne-eqb m j (λ z. e (sym z))))
-          ∙ get-clear-marks n p hp m j b hb (omega arith) (omega (arith, e))
-    ]
+get-clear-marks n p hp m j b hb h l =
+    get-row (λ x. mark p x) 0 (clearMarks b p) (λ x. refl) n m j hb (rw (lt-ltb j 128 (omega arith)) hp) refl (λ x u. lt-ltb x 128 (omega arith)) (λ x z. rw (ne-eqb x j z)) l
 
 pub changes-clear-marks : (t : Field → Bool) (b : List ℕ) (m p : ℕ) (b′ : List ℕ) → m ≤ 128 → ((j : ℕ) → t (mark p j) ≡ true) → Changes t b b′ → Changes t b (clearMarks b′ p m)
 unfolding clearMarks
-changes-clear-marks t b zero p b′ h d c = c
-changes-clear-marks t b (suc m) p b′ h d c =
-    changes-put t b (clearMarks b′ p m) (mark p m) 0 (lt-ltb m 128 (omega arith)) (d m) (changes-clear-marks t b m p b′ (omega arith) d c)
+changes-clear-marks t b m p b′ h d = changes-row (λ x. mark p x) 0 (clearMarks b′ p) (λ x. refl) t b m (λ x l. lt-ltb x 128 (omega arith)) (λ x l. d x)
 
 -- a word of marks cleared before out bits, or after; so a loop may clear both in turn
 past-out : (k p i j : ℕ) (b : List ℕ) → i + k ≤ 4096 → j < 128 → clearOut (put b (mark p j) 0) p i k ≡ put (clearOut b p i k) (mark p j) 0

@@ -1,6 +1,6 @@
 -- Bits of a word set at once, and two entries that are one word.
 --     ones-set    by a mask
---     bitsSet     out bits of blocks that follow one another, in one word
+--     stretch     out bits of blocks that follow one another, in one word: all 0, or all 1 (bitsSet)
 --     struck      an out bit that is set, cleared
 --     paired      the two entries of a word
 use Prim.Native.Nat.{ℕ, zero, suc, _+_, _-_, _*_, _/_, _%_, _^_, _≤_, _<_}
@@ -10,11 +10,11 @@ use mathlib.Core.List.{List}
 use mathlib.Core.Path.{_≡_, refl, sym, ap, _∙_}
 use lib.Bits.{bitAnd, bitOr, or-add-and, and-high}
 use lib.ListN.{length, getD, set}
-use lib.Pow.{pow-pos, pow-add, pow-mono, ones-lt, high-ones, shl-exact, shr-shr, mod-pow-add, recompose}
+use lib.Pow.{pow-pos, pow-add, pow-mono, ones-lt, high-ones, shl-exact, recompose}
 use lib.Seq.{getD-set-same, set-getD, set-set}
 use Rattle.fields.specs.Field.{bits, place, out, slot, put}
-use Rattle.fields.specs.way.OutBits.{setOutRun}
-use Rattle.fields.proofs.Parts.{below, read-le, read-place-other}
+use Rattle.fields.specs.way.OutBits.{setOutRun, outWord, outsAt}
+use Rattle.fields.proofs.Parts.{below, read-le, read-place-other, place-next}
 use Rattle.fields.proofs.Shifts.{one-shl}
 
 -- ---- by a mask
@@ -43,59 +43,43 @@ ones-fit n h = let l : 2 ^ n ≤ 2 ^ 32 = pow-mono h in rw (wide-one n h) (omega
 pub ones-are : (n : ℕ) → n ≤ 32 → 1 * 2 ^ n % 2 ^ 64 - 1 ≡ 2 ^ n - 1
 ones-are n h = rw (wide-one n h)
 
--- ---- one bit more
-grown : (w x k y a c u t : ℕ) → 0 < k → y ≡ x * k → u ≡ k - 1 → t ≡ 2 * k - 1 → (c * k + a) * x ≤ w → w - a * x + u * x - c * y + 1 * y ≡ w - (c * k + a) * x + t * x
-grown w x zero y a c u t z e f g h = absurd (omega arith)
-grown w x (suc m) y a c u t z e f g h =
-    let f′ : u ≡ m = omega arith in
-    let g′ : t ≡ 2 * m + 1 = omega arith in
-    rw (e, f′, g′) (sums (omega arith))
-  where
-    sums : (c * m + c + a) * x ≤ w → w - a * x + m * x - c * (x * suc m) + 1 * (x * suc m) ≡ w - (c * suc m + a) * x + (2 * m + 1) * x
-    sums h = omega arith
+ones-more : (k : ℕ) → 2 ^ suc k - 1 ≡ 1 * 2 ^ k + (2 ^ k - 1)
+ones-more k = let e : suc k ≡ 1 + k = omega arith in rw e (omega (arith, pow-add 2 1 k, pow-pos k))
 
-join : (s k w : ℕ) → place (bits (s + k) 1) (place (bits s k) w (2 ^ k - 1)) 1 ≡ place (bits s (suc k)) w (2 ^ suc k - 1)
-join s k w =
-    let z : suc k ≡ 1 + k = omega arith in
-    let p : 2 ^ suc k ≡ 2 * 2 ^ k = ap (λ n. 2 ^ n) z ∙ pow-add 2 1 k in
-    let d : w / 2 ^ s % 2 ^ suc k ≡ w / 2 ^ (s + k) % 2 ^ 1 * 2 ^ k + w / 2 ^ s % 2 ^ k =
-    ap (λ n. w / 2 ^ s % 2 ^ n) z ∙ mod-pow-add (w / 2 ^ s) 1 k ∙ rw shr-shr in
-    let e : place (bits s k) w (2 ^ k - 1) / 2 ^ (s + k) % 2 ^ 1 ≡ w / 2 ^ (s + k) % 2 ^ 1 = read-place-other w (2 ^ k - 1) (below {m = 1} (le-refl (s + k))) in
-    let l : (w / 2 ^ (s + k) % 2 ^ 1 * 2 ^ k + w / 2 ^ s % 2 ^ k) * 2 ^ s ≤ w = rw (← d) (read-le s (suc k) w 0) in
-    rw (e, d, mod-eq-of-lt (ones-lt k), mod-eq-of-lt (ones-lt (suc k)))
-    (grown w (2 ^ s) (2 ^ k) (2 ^ (s + k)) (w / 2 ^ s % 2 ^ k) (w / 2 ^ (s + k) % 2 ^ 1) (2 ^ k - 1) (2 ^ suc k - 1) (pow-pos k) (pow-add 2 s k) refl (ap (λ n. n - 1) p) l)
-
-none : (s w : ℕ) → place (bits s 0) w (2 ^ 0 - 1) ≡ w
-none s w = rw (mod-one (w / 2 ^ s)) (omega arith)
-
--- the out bits of blocks 32 j to 32 j + 31 are one word
+-- ---- out bits of blocks that follow one another: those of blocks 32 j to 32 j + 31 are one word
 module _ (p j : ℕ) where
-  last-bit : (s i : ℕ) (b : List ℕ) → i ≡ 32 * j + s → s < 32
-      → put b (out p i) 1 ≡ set b (40016 + 4112 * p + j) (place (bits s 1) (getD b (40016 + 4112 * p + j) 0) 1)
+  bit : (s i v : ℕ) (b : List ℕ) → i ≡ 32 * j + s → s < 32 → put b (out p i) v ≡ set b (outWord p j) (place (bits s 1) (outsAt b p j) v)
   unfolding put
-  last-bit s i b e h =
+  bit s i v b e h =
       let d : i / 32 ≡ j = omega arith in
       let m : i % 32 ≡ s = omega arith in
       rw (d, m)
 
-  stretch : (k s i : ℕ) (b : List ℕ) → i ≡ 32 * j + s → s + k ≤ 32 → 40016 + 4112 * p + j < length b
-      → setOutRun b p i k ≡ set b (40016 + 4112 * p + j) (place (bits s k) (getD b (40016 + 4112 * p + j) 0) (2 ^ k - 1))
-  unfolding setOutRun
-  stretch zero s i b e h l = sym (ap (set b (40016 + 4112 * p + j)) (none s _) ∙ set-getD b (40016 + 4112 * p + j) 0)
-  stretch (suc k) s i b e h l =
-      let x = 40016 + 4112 * p + j in
-      let w = getD b x 0 in
-      let v = place (bits s k) w (2 ^ k - 1) in
-      ap (λ z. put z (out p (i + k)) 1) (stretch k s i b e (omega arith) l)
-      ∙ last-bit (s + k) (i + k) (set b x v) (omega arith) (omega arith)
-      ∙ set-set b x v _
-      ∙ ap (set b x) (ap (λ z. place (bits (s + k) 1) z 1) (getD-set-same b x v 0 l) ∙ join s k w)
+  -- R k is the book after k of them, from block i on, became d; value k is the number of k bits d
+  module _ (d : ℕ) (value : ℕ → ℕ) (small : (k : ℕ) → value k < 2 ^ k) (more : (k : ℕ) → value (suc k) ≡ d * 2 ^ k + value k) (s i : ℕ) (at : i ≡ 32 * j + s)
+      (R : ℕ → List ℕ) (next : (k : ℕ) → R (suc k) ≡ put (R k) (out p (i + k)) d) (there : outWord p j < length (R 0)) where
+    pub stretch : (n : ℕ) → s + n ≤ 32 → R n ≡ set (R 0) (outWord p j) (place (bits s n) (outsAt (R 0) p j) (value n))
+    stretch zero h =
+        let none : place (bits s 0) (outsAt (R 0) p j) (value 0) ≡ outsAt (R 0) p j = rw (mod-one (outsAt (R 0) p j / 2 ^ s), mod-one (value 0)) (omega arith) in
+        sym (ap (set (R 0) (outWord p j)) none ∙ set-getD (R 0) (outWord p j) 0)
+    stretch (suc n) h =
+        let x = outWord p j in
+        let w = outsAt (R 0) p j in
+        let v = place (bits s n) w (value n) in
+        let z : 1 + n ≡ suc n = omega arith in
+        next n
+        ∙ ap (λ b. put b (out p (i + n)) d) (stretch n (omega arith))
+        ∙ bit (s + n) (i + n) d (set (R 0) x v) (omega arith) (omega arith)
+        ∙ set-set (R 0) x v _
+        ∙ ap (set (R 0) x)
+        (ap (λ y. place (bits (s + n) 1) y d) (getD-set-same (R 0) x v 0 there) ∙ place-next s n 1 w (value n) d (small n) ∙ rw (z, more n))
 
   pub bitsSet : (s n a r : ℕ) (b b′ : List ℕ) → s + n ≤ 32 → a ≡ 40000 + 4112 * p + (16 + j) → 40016 + 4112 * p + j < length b
       → r ≡ place (bits s n) (getD b a 0) (2 ^ n - 1) → b′ ≡ set b a r → b′ ≡ setOutRun b p (32 * j + s) n
+  unfolding setOutRun
   bitsSet s n a r b b′ h e l f g =
       let e′ : a ≡ 40016 + 4112 * p + j = omega arith in
-      g ∙ ap (set b a) f ∙ ap (λ x. set b x (place (bits s n) (getD b x 0) (2 ^ n - 1))) e′ ∙ sym (stretch n s (32 * j + s) b refl h l)
+      g ∙ ap (set b a) f ∙ ap (λ x. set b x (place (bits s n) (getD b x 0) (2 ^ n - 1))) e′ ∙ sym (stretch 1 (λ k. 2 ^ k - 1) ones-lt ones-more s (32 * j + s) refl (setOutRun b p (32 * j + s)) (λ k. refl) l n h)
 
 -- ---- one bit less
 pub struck-le : (w s : ℕ) → s < 32 → w / 2 ^ s % 2 ^ 1 ≡ 1 → 1 * 2 ^ s % 2 ^ 32 ≤ w

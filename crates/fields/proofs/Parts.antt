@@ -1,9 +1,9 @@
 -- Parts of a word: what is read after a write to the same part and to another, and two writes.
 use Prim.Native.Nat.{ℕ, _+_, _-_, _*_, _/_, _%_, _^_, _≤_, _<_}
 use native.Mathlib.Omega.{arith}
-use native.Mathlib.Nat.{mod-lt, mod-mod, mod-eq-of-lt, zero-mod}
+use native.Mathlib.Nat.{le-refl, mod-lt, mod-mod, mod-eq-of-lt, zero-mod}
 use mathlib.Core.Path.{_≡_, refl, sym, ap, _∙_}
-use lib.Pow.{pow-pos, split, high, low, shr-shr, field, mod-mod-pow}
+use lib.Pow.{pow-pos, pow-add, mod-pow-add, split, high, low, shr-shr, field, mod-mod-pow}
 use Rattle.fields.specs.Field.{Part, whole, bits, read, place}
 
 -- two parts with no bit in common
@@ -90,3 +90,15 @@ comm s n t m w u v d =
 pub place-comm : {p q : Part} (w u v : ℕ) → Split p q → place q (place p w u) v ≡ place p (place q w v) u
 place-comm w u v (below {s} {n} {t} {m} h) = comm s n t m w u v (below h)
 place-comm w u v (above {s} {n} {t} {m} h) = comm s n t m w u v (above h)
+
+-- two parts that lie side by side are one
+joined : (w x k y a c u v : ℕ) → y ≡ x * k → (c * k + a) * x ≤ w → w - a * x + u * x - c * y + v * y ≡ w - (c * k + a) * x + (v * k + u) * x
+joined w x k y a c u v e h = rw e (omega arith)
+
+pub place-next : (s k m w u v : ℕ) → u < 2 ^ k → place (bits (s + k) m) (place (bits s k) w u) v ≡ place (bits s (m + k)) w (v * 2 ^ k + u)
+place-next s k m w u v h =
+    let e : place (bits s k) w u / 2 ^ (s + k) % 2 ^ m ≡ w / 2 ^ (s + k) % 2 ^ m = read-place-other w u (below {m = m} (le-refl (s + k))) in
+    let d : w / 2 ^ s % 2 ^ (m + k) ≡ w / 2 ^ (s + k) % 2 ^ m * 2 ^ k + w / 2 ^ s % 2 ^ k = mod-pow-add (w / 2 ^ s) m k ∙ rw shr-shr in
+    let t : (v * 2 ^ k + u) % 2 ^ (m + k) ≡ v % 2 ^ m * 2 ^ k + u = mod-pow-add (v * 2 ^ k + u) m k ∙ rw (high v k h, low v k h) in
+    let l : (w / 2 ^ (s + k) % 2 ^ m * 2 ^ k + w / 2 ^ s % 2 ^ k) * 2 ^ s ≤ w = rw (← d) (read-le s (m + k) w 0) in
+    rw (e, d, t, mod-eq-of-lt h) (joined w (2 ^ s) (2 ^ k) (2 ^ (s + k)) (w / 2 ^ s % 2 ^ k) (w / 2 ^ (s + k) % 2 ^ m) u (v % 2 ^ m) (pow-add 2 s k) l)

@@ -3,11 +3,12 @@
 --     back-free        blocks that come back leave FREE until they are counted
 use Rattle.facts.specs.Lists.{every}
 use Rattle.model.specs.Page.{isMedium}
-use Prim.Native.Nat.{ℕ, zero, suc, _+_, _-_, _*_, _/_, _≤_, _<_}
+use Prim.Native.Nat.{ℕ, zero, suc, _+_, _*_, _/_, _≤_, _<_}
 use native.Mathlib.Omega.{arith}
+use native.Mathlib.Nat.{add-zero}
 use mathlib.Core.Bool.{Bool, true, false, cond}
 use mathlib.Core.List.{List}
-use mathlib.Core.Path.{_≡_, refl}
+use mathlib.Core.Path.{_≡_, refl, ap, _∙_}
 use lib.Dec.{ltb}
 use lib.ListN.{length}
 use Rattle.classes.specs.declared.Shape.{Shape}
@@ -15,7 +16,7 @@ use Rattle.fields.specs.Field.{Field, class, page, slot, mark, out, partial, ne
 use Rattle.fields.specs.Clear.{clearOut, clearMarks}
 use Rattle.fields.proofs.Changes.{Changes, changes-none, changes-put, changes-trans}
 use Rattle.fields.proofs.Outcome.{changes-putAt}
-use Rattle.fields.proofs.Clear.{changes-clear, changes-clear-marks}
+use Rattle.fields.proofs.Clear.{changes-row, changes-clear, changes-clear-marks}
 use Rattle.pages.specs.declared.Park.{Park}
 use Rattle.words.specs.Host.{digit}
 use Rattle.pages.specs.Runs.{nameRun}
@@ -75,11 +76,14 @@ module _ (t : Field → Bool) (b : List ℕ) (c q : ℕ) (hc : ltb c 76 ≡ true
         (changes-put t b _ (class (top k) c) _ hc ht (changes-put t b b (page next q) _ refl hn (changes-none t b)))
 
 -- ---- runs and carving
+pub name-last : (b : List ℕ) (f x m : ℕ) → nameRun b f x (suc m) ≡ put (nameRun b f x m) (page first (x + m)) f
+unfolding nameRun
+name-last b f x zero = rw add-zero
+name-last b f x (suc m) = name-last (put b (page first x) f) f (suc x) m ∙ ap (λ y. put (nameRun (put b (page first x) f) f (suc x) m) (page first y) f) (omega arith)
+
 pub changes-name : (t : Field → Bool) (b b′ : List ℕ) (f x m : ℕ) → ((y : ℕ) → x ≤ y → y < x + m → t (page first y) ≡ true) → Changes t b b′ → Changes t b (nameRun b′ f x m)
 unfolding nameRun
-changes-name t b b′ f x zero h c = c
-changes-name t b b′ f x (suc m) h c =
-    changes-name t b (put b′ (page first x) f) f (suc x) m (λ y l u. h y (omega arith) (omega arith)) (changes-put t b b′ (page first x) f refl (h x (omega arith) (omega arith)) c)
+changes-name t b b′ f x m h = changes-row (λ k. page first (x + k)) f (nameRun b′ f x) (name-last b′ f x) t b m (λ k l. refl) (λ k l. h (x + k) (omega arith) (omega arith))
 
 module _ (t : Field → Bool) (b : List ℕ) (q : ℕ) (hf : t (page free q) ≡ true) (hv : t (page virgin q) ≡ true) (hs : (i : ℕ) → t (slot q i) ≡ true) where
   pub changes-pushed : (is : List ℕ) → get b (page free q) + length is ≤ 4096 → Changes t b (pushed b q is)

@@ -5,5 +5,7 @@ pub mod Pushes
 pub mod Spliced
 pub mod Draws
 pub mod Frames
+pub mod Runs
+pub mod Kept
 pub mod ValidLaws
 pub mod NewRun

@@ -2,9 +2,8 @@
 --     new-names      every page of it names its first
 --     bare-listed    it is in no list
 --     bare-outs      no block of it is out; bare-marks, and none is marked
-use Prim.Native.Nat.{ℕ, zero, suc, _+_, _*_, _≤_, _<_}
+use Prim.Native.Nat.{ℕ, _+_, _-_, _*_, _≤_, _<_}
 use native.Mathlib.Omega.{arith}
-use native.Mathlib.Decide.{ℕ-discrete}
 use mathlib.Core.Bool.{Bool, true, not, _&&_}
 use mathlib.Core.List.{List}
 use mathlib.Core.Path.{_≡_, refl, _∙_}
@@ -12,29 +11,21 @@ use lib.Dec.{eqb, ltb, leb}
 use lib.ListN.{length}
 use borrow.Author.Tests.{lt-ltb, ne-eqb}
 use Rattle.classes.specs.declared.Shape.{Shape}
-use Rattle.fields.specs.Field.{Field, page, mark, out, first, listed, region, off, get, put, words}
+use Rattle.fields.specs.Field.{Field, page, mark, out, first, listed, region, off, get, words}
 use Rattle.fields.specs.Clear.{clearOut, clearMarks}
 use Rattle.fields.proofs.Laws.{get-put-same, get-put-other, length-put}
 use Rattle.fields.proofs.Changes.{changes-none}
-use Rattle.fields.proofs.Clear.{get-clear, length-clear, changes-clear, length-clear-marks, get-clear-marks, changes-clear-marks}
+use Rattle.fields.proofs.Clear.{get-row, get-clear, length-clear, changes-clear, length-clear-marks, get-clear-marks, changes-clear-marks}
 use Rattle.pages.specs.Runs.{nameRun}
 use Rattle.pages.specs.Carve.{outWords, bareRun, newRun}
-use Rattle.pages.proofs.Frames.{changes-name, changes-carve}
-
-name-before : (b : List ℕ) (f x m y : ℕ) → y < x → get (nameRun b f x m) (page first y) ≡ get b (page first y)
-unfolding nameRun
-name-before b f x zero y l = refl
-name-before b f x (suc m) y l =
-    name-before (put b (page first x) f) f (suc x) m y (omega arith) ∙ get-put-other b (page first x) (page first y) f refl refl (ne-eqb x y (λ e. omega arith))
+use Rattle.pages.proofs.Frames.{name-last, changes-name, changes-carve}
 
 name-in : (n : ℕ) (b : List ℕ) → leb (words n) (length b) ≡ true → (f x m y : ℕ) → x + m ≤ n → x ≤ y → y < x + m → get (nameRun b f x m) (page first y) ≡ f
 unfolding nameRun
-name-in n b hb f x zero y h l u = absurd (omega arith)
-name-in n b hb f x (suc m) y h l u =
-    elim (ℕ-discrete y x) [
-      | yes e ↦ rw e (name-before (put b (page first x) f) f (suc x) m x (omega arith) ∙ get-put-same n b (page first x) f hb (lt-ltb x n (omega arith)) refl)
-      | no e ↦ name-in n (put b (page first x) f) (rw length-put hb) f (suc x) m y (omega arith) (omega (arith, e)) (omega arith)
-    ]
+name-in n b hb f x m y h l u =
+    let e : x + (y - x) ≡ y = omega arith in
+    rw e at (get-row (λ k. page first (x + k)) f (nameRun b f x) (name-last b f x) n m (y - x) hb (lt-ltb (x + (y - x)) n (omega arith)) refl
+    (λ k v. refl) (λ k z. ne-eqb (x + k) (x + (y - x)) (λ w. z (omega arith))) (omega arith))
 
 module _ (b : List ℕ) (sh : Shape) (few : sh .capacity ≤ 4096) (q : ℕ) where
   abbrev named : List ℕ

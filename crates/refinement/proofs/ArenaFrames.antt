@@ -1,17 +1,18 @@
 -- What the arena's steps leave alone, for the class part of the representation.
 --     isStep t             the arena's words but LENGTH, and OWNER of the pages of t: no row, no other word of a page
---     step-row, step-page  so a class's row and a page's other words are as they were
+--     step-row, step-first so a class's row and FIRST of every page are as they were
 --     names b d x y        page y says that it is of class d's run at x
 --     whole-same           a run is whole as before if below the old frontier its pages are named as before, and no page above it names it
 use Prim.Native.Nat.{ℕ, zero, suc, _+_, _-_, _≤_, _<_}
 use native.Mathlib.Omega.{arith}
+use native.Mathlib.Nat.{add-zero}
 use mathlib.Core.Bool.{Bool, true, false, _&&_, _||_, true≢false, false≢true}
 use mathlib.Core.List.{List}
 use mathlib.Core.Option.{Option, none, some}
 use mathlib.Core.Path.{_≡_, refl, sym, ap, _∙_}
 use lib.Dec.{eqb, ltb, leb}
 use lib.ListN.{length}
-use borrow.Author.Tests.{lt-ltb, ltb-true, ltb-false, le-leb, leb-true, leb-false}
+use borrow.Author.Tests.{ne-eqb, lt-ltb, ltb-true, le-leb, leb-true, leb-false}
 use Rattle.facts.specs.Lists.{every, below}
 use Rattle.facts.proofs.Bools.{by-cases, and-left, and-right, or-left, or-right}
 use Rattle.facts.proofs.Lists.{every-at, every-cong}
@@ -21,8 +22,8 @@ use Rattle.model.specs.Heap.{direct}
 use Rattle.arena.specs.Owners.{ownerCode}
 use Rattle.words.specs.Limits.{holeSlots}
 use Rattle.classes.specs.declared.Shape.{Shape}
-use Rattle.fields.specs.Field.{Field, arena, class, hole, page, mark, out, slot, ClassField, PageField, owner, first, frontier, held, arenaOff, pageOff, get, put, words, emptyLimit, coldLimit}
-use Rattle.fields.proofs.Laws.{get-put-same, length-put}
+use Rattle.fields.specs.Field.{Field, arena, class, hole, page, mark, out, slot, ClassField, owner, first, frontier, held, arenaOff, pageOff, get, put, words, emptyLimit, coldLimit}
+use Rattle.fields.proofs.Clear.{changes-row, get-row}
 use Rattle.fields.proofs.Changes.{Changes, changes-none, changes-put, changes-trans, changes-mono}
 use Rattle.model.specs.Arena.{Arena}
 use Rattle.model.specs.Arena as Model
@@ -67,37 +68,13 @@ module _ (t : ℕ → Bool) (b b′ : List ℕ) (h : Changes (isStep t) b b′) 
   pub step-rule : (c : ℕ) {lim : Limits} → ltb c 76 ≡ true → RuleRep b c lim → RuleRep b′ c lim
   step-rule c o = rule-kept (step-row emptyLimit c o) (step-row coldLimit c o)
 
-  pub step-page : (k : PageField) (p : ℕ) → eqb (pageOff k) 0 ≡ false → get b′ (page k p) ≡ get b (page k p)
-  step-page k p e = h .kept (page k p) refl (rw e)
-
-  pub step-owner : (x : ℕ) → t x ≡ false → get b′ (page owner x) ≡ get b (page owner x)
-  step-owner x e = h .kept (page owner x) refl e
-
   pub step-first : (x : ℕ) → get b′ (page first x) ≡ get b (page first x)
   step-first x = h .kept (page first x) refl refl
-
-  pub step-out : (p i : ℕ) → ltb i 4096 ≡ true → get b′ (out p i) ≡ get b (out p i)
-  step-out p i o = h .kept (out p i) o refl
-
-  pub step-mark : (p j : ℕ) → ltb j 128 ≡ true → get b′ (mark p j) ≡ get b (mark p j)
-  step-mark p j o = h .kept (mark p j) o refl
-
-  pub step-slot : (p i : ℕ) → ltb i 4096 ≡ true → get b′ (slot p i) ≡ get b (slot p i)
-  step-slot p i o = h .kept (slot p i) o refl
 
 -- ---- owners
 and-mono : (s t u : Bool) → (t ≡ true → u ≡ true) → (s && t) ≡ true → (s && u) ≡ true
 and-mono true t u h e = h e
 and-mono false t u h e = e
-
-owner-mono : (t u : ℕ → Bool) → ((x : ℕ) → t x ≡ true → u x ≡ true) → (g : Field) → isOwner t g ≡ true → isOwner u g ≡ true
-owner-mono t u h (arena k) e = e
-owner-mono t u h (mark p j) e = e
-owner-mono t u h (class k c) e = e
-owner-mono t u h (hole k i) e = e
-owner-mono t u h (page k p) e = and-mono (eqb (pageOff k) 0) (t p) (u p) (h p) e
-owner-mono t u h (out p i) e = e
-owner-mono t u h (slot p i) e = e
 
 owner-step : (t u : ℕ → Bool) → ((x : ℕ) → t x ≡ true → u x ≡ true) → (g : Field) → isOwner t g ≡ true → isStep u g ≡ true
 owner-step t u h (arena k) e = absurd (false≢true e)
@@ -117,43 +94,25 @@ stored-step u (page k p) e = absurd (false≢true e)
 stored-step u (out p i) e = absurd (false≢true e)
 stored-step u (slot p i) e = absurd (false≢true e)
 
-in-rest : (m q x : ℕ) → inRun m (suc q) x ≡ true → inRun (suc m) q x ≡ true
-in-rest m q x e =
-    let l = leb-true (suc q) x (and-left (leb (suc q) x) (ltb x (suc q + m)) e) in
-    let u = ltb-true x (suc q + m) (and-right (leb (suc q) x) (ltb x (suc q + m)) e) in
-    rw (le-leb q x (omega arith), lt-ltb x (q + suc m) (omega arith))
-
-in-first : (m q : ℕ) → inRun (suc m) q q ≡ true
-in-first m q = rw (le-leb q q (omega arith), lt-ltb q (q + suc m) (omega arith))
+own-last : (b : List ℕ) (q m w : ℕ) → own b q (suc m) w ≡ put (own b q m w) (page owner (q + m)) w
+unfolding own
+own-last b q zero w = rw add-zero
+own-last b q (suc m) w = own-last (put b (page owner q) w) (suc q) m w ∙ ap (λ y. put (own (put b (page owner q) w) (suc q) m w) (page owner y) w) (omega arith)
 
 pub own-changes : (b : List ℕ) (q m w : ℕ) → Changes (isOwner (inRun m q)) b (own b q m w)
 unfolding own
-own-changes b q zero w = changes-none (isOwner (inRun 0 q)) b
-own-changes b q (suc m) w =
-    let t = isOwner (inRun (suc m) q) in
-    let c = put b (page owner q) w in
-    changes-trans t b c (own c (suc q) m w)
-    (changes-put t b b (page owner q) w refl (in-first m q) (changes-none t b))
-    (changes-mono (isOwner (inRun m (suc q))) t c (own c (suc q) m w) (owner-mono (inRun m (suc q)) (inRun (suc m) q) (in-rest m q)) (own-changes c (suc q) m w))
+own-changes b q m w =
+    changes-row (λ k. page owner (q + k)) w (λ k. own b q k w) (λ k. own-last b q k w) (isOwner (inRun m q)) b m
+    (λ k l. refl) (λ k l. rw (le-leb q (q + k) (omega arith), lt-ltb (q + k) (q + m) (omega arith))) (changes-none (isOwner (inRun m q)) b)
 
 pub own-in : (n : ℕ) (b : List ℕ) (q m w x : ℕ) → leb (words n) (length b) ≡ true → q + m ≤ n → inRun m q x ≡ true → get (own b q m w) (page owner x) ≡ w
 unfolding own
-own-in n b q zero w x hb l e =
-    absurd (let u = leb-true q x (and-left (leb q x) (ltb x (q + 0)) e) in let v = ltb-true x (q + 0) (and-right (leb q x) (ltb x (q + 0)) e) in omega arith)
-own-in n b q (suc m) w x hb l e =
-    let c = put b (page owner q) w in
-    let hc : leb (words n) (length c) ≡ true = rw length-put hb in
-    by-cases (inRun m (suc q) x)
-    (λ d. own-in n c (suc q) m w x hc (omega arith) d)
-    (λ d. own-changes c (suc q) m w .kept (page owner x) refl d ∙ rw (sym (only-first m q x e d)) (get-put-same n b (page owner q) w hb (lt-ltb q n (omega arith)) refl))
-  where
-    only-first : (m q x : ℕ) → inRun (suc m) q x ≡ true → inRun m (suc q) x ≡ false → q ≡ x
-    only-first m q x e d =
-        let l = leb-true q x (and-left (leb q x) (ltb x (q + suc m)) e) in
-        let u = ltb-true x (q + suc m) (and-right (leb q x) (ltb x (q + suc m)) e) in
-        by-cases (leb (suc q) x)
-        (λ k. absurd (let v : ltb x (suc q + m) ≡ false = rw k at d in let y = ltb-false x (suc q + m) v in omega arith))
-        (λ k. let v = leb-false (suc q) x k in omega arith)
+own-in n b q m w x hb h e =
+    let l = leb-true q x (and-left (leb q x) (ltb x (q + m)) e) in
+    let u = ltb-true x (q + m) (and-right (leb q x) (ltb x (q + m)) e) in
+    let z : q + (x - q) ≡ x = omega arith in
+    rw z at (get-row (λ k. page owner (q + k)) w (λ k. own b q k w) (λ k. own-last b q k w) n m (x - q) hb (lt-ltb (q + (x - q)) n (omega arith)) refl
+    (λ k v. refl) (λ k d. ne-eqb (q + k) (q + (x - q)) (λ y. d (omega arith))) (omega arith))
 
 -- a run of an owner, or none
 pub run-changes : (b : List ℕ) (o : Option ℕ) (m w : ℕ) → Changes (isOwner (inRunOf m o)) b (ownRun b o m w)
@@ -221,36 +180,6 @@ given-changes b q m l =
 -- ---- runs
 abbrev pub names : List ℕ → ℕ → ℕ → ℕ → Bool
 names b d x y = eqb (get b (page owner y)) (suc d) && eqb (get b (page first y)) x
-
--- every page of a run that is whole names it
-pub whole-names : (n : ℕ) (b : List ℕ) (sh : Shape) (d x y : ℕ) → whole n b sh d x ≡ true → inRun (sh .pages) x y ≡ true → names b d x y ≡ true
-unfolding whole
-whole-names n b sh d x y e r =
-    let l = leb-true x y (and-left (leb x y) (ltb y (x + sh .pages)) r) in
-    let u = ltb-true y (x + sh .pages) (and-right (leb x y) (ltb y (x + sh .pages)) r) in
-    let ends = leb (x + sh .pages) (get b (arena frontier)) in
-    let pages = every (ofRun b d x) (below (sh .pages)) in
-    let all = and-right ends pages (and-right (leb (x + sh .pages) n) (ends && pages) e) in
-    let z : x + (y - x) ≡ y = omega arith in
-    rw z at (every-at (ofRun b d x) (sh .pages) (y - x) all (omega arith))
-
-pub named-whole : (n : ℕ) (b : List ℕ) (sh : Shape) (d x : ℕ) → x + sh .pages ≤ n → x + sh .pages ≤ get b (arena frontier)
-    → ((y : ℕ) → inRun (sh .pages) x y ≡ true → names b d x y ≡ true) → whole n b sh d x ≡ true
-unfolding whole
-named-whole n b sh d x l u h = rw (le-leb (x + sh .pages) n l, le-leb (x + sh .pages) (get b (arena frontier)) u) (all (sh .pages) (omega arith))
-  where
-    all : (j : ℕ) → j ≤ sh .pages → every (ofRun b d x) (below j) ≡ true
-    all zero v = refl
-    all (suc j) v = rw (h (x + j) (rw (le-leb x (x + j) (omega arith), lt-ltb (x + j) (x + sh .pages) (omega arith)))) (all j (omega arith))
-
-pub whole-ends : (n : ℕ) (b : List ℕ) (sh : Shape) (d x : ℕ) → whole n b sh d x ≡ true → (x + sh .pages ≤ n) × (x + sh .pages ≤ get b (arena frontier))
-unfolding whole
-whole-ends n b sh d x e =
-    let f = get b (arena frontier) in
-    let inside = leb (x + sh .pages) n in
-    let ends = leb (x + sh .pages) f in
-    let pages = every (ofRun b d x) (below (sh .pages)) in
-    (leb-true (x + sh .pages) n (and-left inside (ends && pages) e), leb-true (x + sh .pages) f (and-left ends pages (and-right inside (ends && pages) e)))
 
 module _ (n : ℕ) (b b′ : List ℕ) (sh : Shape) (d x : ℕ) (some-page : 1 ≤ sh .pages) (rises : get b (arena frontier) ≤ get b′ (arena frontier))
     (under : (y : ℕ) → y < get b (arena frontier) → names b′ d x y ≡ names b d x y)

@@ -13,11 +13,12 @@ use borrow.Author.Tests.{eq-eqb, ne-eqb}
 use Rattle.model.specs.Cover.{inRun, covers}
 use Rattle.classes.specs.declared.Shape.{Shape}
 use Rattle.classes.specs.way.Sound.{Sound}
-use Rattle.fields.specs.Field.{next, prev, free, carved, listed, virgin}
+use Rattle.fields.specs.Field.{page, next, prev, listed}
 use Rattle.fields.proofs.Changes.{Changes}
 use Rattle.model.specs.Page.{Page}
 use Rattle.model.specs.Heap.{Heap, isHeld}
 use Rattle.pages.specs.Runs.{whole}
+use Rattle.pages.proofs.Kept.{changes-body}
 use Rattle.pages.specs.declared.Park.{Park}
 use Rattle.arena.specs.Calls.{given}
 use Rattle.arena.specs.way.Represents.{ArenaRep}
@@ -25,22 +26,15 @@ use Rattle.refinement.specs.way.Represents.{heads, ClassRep}
 use Rattle.refinement.proofs.Basics.{digit-le}
 use Rattle.refinement.proofs.Kept.{Keeps, class-now, class-kept, listed-whole}
 use Rattle.refinement.proofs.ArenaReached.{Reached}
-use Rattle.refinement.proofs.ArenaFrames.{isStep, step-row, step-page, step-out, step-mark, step-slot}
+use Rattle.refinement.proofs.ArenaFrames.{isStep, step-row}
 use Rattle.refinement.proofs.ArenaRuns.{given-step, left-whole, left-gone}
 
 module _ (t : ℕ → Bool) (b b′ : List ℕ) (h : Changes (isStep t) b b′) where
   pub step-keeps : {n : ℕ} {sh : Shape} {c x : ℕ} → whole n b′ sh c x ≡ true → Keeps n sh c b b′ x
   step-keeps {x = x} w = record {
-    body = record {
-      free = step-page t b b′ h free x refl;
-      carved = step-page t b b′ h carved x refl;
-      virgin = step-page t b b′ h virgin x refl;
-      slots = λ i e. step-slot t b b′ h x i e;
-      outs = λ i e. step-out t b b′ h x i e;
-      marks = λ j e. step-mark t b b′ h x j e;
-    };
-    listing = step-page t b b′ h listed x refl;
-    ties = record { fore = step-page t b b′ h next x refl; back = step-page t b b′ h prev x refl };
+    body = changes-body h x refl refl refl (λ i. refl) (λ i. refl) (λ j. refl);
+    listing = h .kept (page listed x) refl refl;
+    ties = record { fore = h .kept (page next x) refl refl; back = h .kept (page prev x) refl refl };
     run = w;
   }
 

@@ -10,7 +10,7 @@ use mathlib.Core.Bool.{Bool, true, false, cond, _&&_}
 use mathlib.Core.List.{List}
 use mathlib.Core.Path.{_≡_, refl, sym, _∙_}
 use lib.Dec.{eqb, ltb, leb, eqb·zero-suc}
-use borrow.Author.Tests.{ltb-true, ltb-false, ne-eqb, eqb-true, eqb-false, eq-eqb, le-leb, lt-ltb}
+use borrow.Author.Tests.{ltb-true, ltb-false, ne-eqb, eqb-true, eqb-false, le-leb, lt-ltb, leb-true}
 use Rattle.facts.proofs.Bools.{by-cases, and-left, and-right}
 use Rattle.model.specs.Cover.{inRun, covers, coversRun}
 use Rattle.classes.specs.declared.Shape.{Shape}
@@ -22,12 +22,13 @@ use Rattle.model.specs.Heap.{Heap, Holder, nobody, direct, class, isHeld, passT
 use Rattle.model.proofs.ArenaTidy.{tidy-give}
 use Rattle.model.proofs.ArenaLaws.{idle, commit-law, grow-law, grow-rises, give-frontier}
 use Rattle.pages.specs.Runs.{whole}
+use Rattle.pages.proofs.Runs.{whole-says, whole-of}
 use Rattle.arena.specs.Owners.{ownerCode}
 use Rattle.arena.specs.Calls.{commitBook, given, grownBy, growBook}
 use Rattle.arena.specs.way.Represents.{ArenaRep}
 use Rattle.refinement.proofs.ArenaReached.{Reached, heapOf, above-nobody, idle-nobody}
 use Rattle.refinement.proofs.ArenaValid.{loads-frontier}
-use Rattle.refinement.proofs.ArenaFrames.{isStep, inRunOf, either, passed, step-first, committed-changes, grown-changes, given-changes, names, whole-same, whole-names, named-whole}
+use Rattle.refinement.proofs.ArenaFrames.{isStep, inRunOf, either, passed, step-first, committed-changes, grown-changes, given-changes, names, whole-same}
 use Rattle.refinement.proofs.CommitRep.{commit-rep, grow-rep}
 use Rattle.refinement.proofs.GiveRep.{run-ends, give-rep}
 
@@ -120,11 +121,14 @@ module _ (n : ℕ) (b b′ : List ℕ) (H : Heap) (r : Reached n H) (rep : Arena
     pub claimed-new : (c q : ℕ) → who ≡ class c → (sh : Shape) → ((y : ℕ) → inRun (sh .pages) q y ≡ true → eqb (g y) 0 ≡ false)
         → ((y : ℕ) → eqb (g y) 0 ≡ false → get b′ (page first y) ≡ q) → q + sh .pages ≤ a .frontier → a .frontier ≤ n → whole n b′ sh c q ≡ true
     claimed-new c q wc sh ins fs l u =
-        named-whole n b′ sh c q (omega arith) (rw (loads-frontier b′ a (rep′ .loads)) l)
-        (λ y e. let k = ins y e in
-        let z : y < q + sh .pages = ltb-true y (q + sh .pages) (and-right (leb q y) (ltb y (q + sh .pages)) e) in
-        let o : get b′ (page owner y) ≡ suc c = rw (k, wc) at (rep′ .owners y (omega arith)) in
-        rw (o, fs y k, eq-eqb (suc c) (suc c) refl, eq-eqb q q refl))
+        let drawn : (y : ℕ) → q ≤ y → y < q + sh .pages → eqb (g y) 0 ≡ false = λ y i o. ins y (rw (le-leb q y i, lt-ltb y (q + sh .pages) o)) in
+        whole-of n b′ sh c q
+        (record {
+          inside = omega arith;
+          below = rw (loads-frontier b′ a (rep′ .loads)) l;
+          owner = λ y i o. rw (drawn y i o, wc) at (rep′ .owners y (omega arith));
+          first = λ y i o. fs y (drawn y i o);
+        })
 
 -- ---- a run that is held is given
 module _ (n : ℕ) (b : List ℕ) (H : Heap) (rep : ArenaRep n b H) (r : Reached n H) (q m : ℕ) (one : 1 ≤ m) (holds : (x : ℕ) → covers m q x ≤ isHeld (H .holder x)) where
@@ -152,13 +156,14 @@ module _ (n : ℕ) (b : List ℕ) (H : Heap) (rep : ArenaRep n b H) (r : Reached
   -- from class c, whose run it was
   module _ (sh₀ : Shape) (c : ℕ) (pages : sh₀ .pages ≡ m) (run : whole n b sh₀ c q ≡ true) where
     pub left-whole : (sh : Shape) (d x : ℕ) → 1 ≤ sh .pages → (d ≡ c → x ≡ q → ⊥) → whole n (given b q m) sh d x ≡ whole n b sh d x
-    left-whole sh d x some-page ne = given-pages sh d x some-page (λ y e. other y (whole-names n b sh₀ c q y run (rw pages e)))
+    left-whole sh d x some-page ne = given-pages sh d x some-page other
       where
-        other : (y : ℕ) → names b c q y ≡ true → names b d x y ≡ false
+        other : (y : ℕ) → inRun m q y ≡ true → names b d x y ≡ false
         other y t =
-            let o = eqb-true (get b (page owner y)) (suc c) (and-left (eqb (get b (page owner y)) (suc c)) (eqb (get b (page first y)) q) t) in
-            let s = eqb-true (get b (page first y)) q (and-right (eqb (get b (page owner y)) (suc c)) (eqb (get b (page first y)) q) t) in
-            rw (o, s)
+            let w = whole-says n b sh₀ c q run in
+            let i = leb-true q y (and-left (leb q y) (ltb y (q + m)) t) in
+            let u : y < q + sh₀ .pages = rw pages (ltb-true y (q + m) (and-right (leb q y) (ltb y (q + m)) t)) in
+            rw (w .owner y i u, w .first y i u)
             (by-cases (eqb c d)
             (λ e. let z = eqb-true c d e in and-false-r (eqb (suc c) (suc d)) (eqb q x) (ne-eqb q x (λ w. ne (sym z) (sym w))))
             (λ e. let z : c ≡ d → ⊥ = eqb-false c d e in and-false-l (eqb (suc c) (suc d)) (eqb q x) (class-other c d z)))
@@ -166,8 +171,7 @@ module _ (n : ℕ) (b : List ℕ) (H : Heap) (rep : ArenaRep n b H) (r : Reached
     pub left-gone : whole n (given b q m) sh₀ c q ≡ false
     left-gone =
         by-cases (whole n (given b q m) sh₀ c q)
-        (λ e. absurd (let t = whole-names n (given b q m) sh₀ c q q e (rw (le-leb q q (omega arith), lt-ltb q (q + sh₀ .pages) (omega arith))) in
-        let o = eqb-true (get (given b q m) (page owner q)) (suc c) (and-left (eqb (get (given b q m) (page owner q)) (suc c)) (eqb (get (given b q m) (page first q)) q) t) in
+        (λ e. absurd (let o = whole-says n (given b q m) sh₀ c q e .owner q (omega arith) (omega arith) in
         let i : inRun m q q ≡ true = rw (le-leb q q (omega arith), lt-ltb q (q + m) (omega arith)) in
         let z : get (given b q m) (page owner q) ≡ 0 = rw i at (given-rep .owners q (omega (arith, give-frontier m q (H .arena), run-ends n b H rep r q m one holds))) in
         omega arith))

@@ -3,7 +3,7 @@
 --     claim-new          the run itself is whole now
 --     claim-none         no class had a run there before
 -- b is the book before the commit, b′ any book that stands for the model's arena and holders after it.
-use Prim.Native.Nat.{ℕ, suc, _+_, _≤_, _<_}
+use Prim.Native.Nat.{ℕ, _+_, _≤_, _<_}
 use native.Mathlib.Omega.{arith}
 use mathlib.Core.Bool.{true, false}
 use mathlib.Core.List.{List}
@@ -11,7 +11,7 @@ use mathlib.Core.Option.{some}
 use mathlib.Core.Path.{_≡_, refl, sym, ap, _∙_}
 use lib.Dec.{eqb}
 use borrow.Author.Tests.{eqb-true, eqb-false, le-leb, lt-ltb}
-use Rattle.facts.proofs.Bools.{by-cases, and-left}
+use Rattle.facts.proofs.Bools.{by-cases}
 use Rattle.model.specs.Cover.{inRun, covers, coversRun}
 use Rattle.classes.specs.declared.Shape.{Shape}
 use Rattle.fields.specs.Field.{page, owner, first, get}
@@ -21,10 +21,10 @@ use Rattle.model.specs.Heap.{Heap, nobody, class, passTo}
 use Rattle.model.proofs.ArenaLaws.{idle, commit-law}
 use Rattle.model.proofs.IdlePages.{commit-below}
 use Rattle.pages.specs.Runs.{whole}
+use Rattle.pages.proofs.Runs.{whole-says}
 use Rattle.arena.specs.way.Represents.{ArenaRep}
 use Rattle.refinement.proofs.ArenaReached.{Reached, heapOf, idle-once, idle-nobody}
 use Rattle.refinement.proofs.ArenaValid.{loads-frontier}
-use Rattle.refinement.proofs.ArenaFrames.{whole-names, whole-ends}
 use Rattle.refinement.proofs.ArenaRuns.{class-other, drawn-whole, claimed-others, claimed-new}
 
 module _ (n : ℕ) (b : List ℕ) (H : Heap) (rep : ArenaRep n b H) (r : Reached n H) (h m : ℕ) (one : 1 ≤ m) (q : ℕ) (answers : commit n h m (H .arena) .run ≡ some q) where
@@ -39,9 +39,9 @@ module _ (n : ℕ) (b : List ℕ) (H : Heap) (rep : ArenaRep n b H) (r : Reached
   pub claim-none : (sh : Shape) (d : ℕ) → 1 ≤ sh .pages → whole n b sh d q ≡ false
   claim-none sh d l =
       by-cases (whole n b sh d q)
-      (λ e. absurd (let t = whole-names n b sh d q q e (rw (le-leb q q (omega arith), lt-ltb q (q + sh .pages) (omega arith))) in
-      let o = eqb-true (get b (page owner q)) (suc d) (and-left (eqb (get b (page owner q)) (suc d)) (eqb (get b (page first q)) q) t) in
-      let u : q < H .arena .frontier = omega (arith, whole-ends n b sh d q e .1, loads-frontier b (H .arena) (rep .loads)) in
+      (λ e. absurd (let w = whole-says n b sh d q e in
+      let o = w .owner q (omega arith) (omega arith) in
+      let u : q < H .arena .frontier = omega (arith, w .below, loads-frontier b (H .arena) (rep .loads)) in
       let z : get b (page owner q) ≡ 0 = rw (run-nobody q (rw (le-leb q q (omega arith), lt-ltb q (q + m) (omega arith)))) at (rep .owners q u) in
       omega arith))
       (λ e. e)

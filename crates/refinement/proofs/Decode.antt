@@ -30,7 +30,7 @@ use Rattle.pages.specs.Stack.{outBit, blocksFrom, indexOf, pageAt, isBlock}
 use Rattle.calls.specs.Out.{startOf, outIn, inRunOf, outAt}
 use Rattle.refinement.specs.way.Represents.{PageRep}
 use Rattle.refinement.proofs.Basics.{Setting, digit-cases}
-use Rattle.refinement.proofs.Frames.{whole-says}
+use Rattle.pages.proofs.Runs.{whole-says}
 
 pub both : (s t : Bool) → s ≡ true → t ≡ true → (s && t) ≡ true
 both s t e f = rw (e, f)
@@ -172,14 +172,9 @@ module _ {n : ℕ} {b : List ℕ} {c : ℕ} {sh : Shape} (s : Setting n b c sh) 
       pub sits-start : startOf b w ≡ p .first
       unfolding startOf
       sits-start =
-          let i = t .index in
-          let q = p .first in
-          let x = pageAt (wordOf sh (p .first) (t .index)) in
-          let lo = low-page (s .shape) (p .first) (t .index) (t .inside) page-low in
-          let hi = high-page (s .shape) (p .first) (t .index) (t .inside) page-low in
-          let z : p .first + (pageAt (wordOf sh (p .first) (t .index)) - p .first) ≡ pageAt (wordOf sh (p .first) (t .index)) = omega arith in
           ap (λ v. get b (page first (pageAt v))) (t .names)
-          ∙ ap (λ y. get b (page first y)) (sym z) ∙ whole-says n b sh c (p .first) (r .holds .run) .first (x - q) (omega arith)
+          ∙ whole-says n b sh c (p .first) (r .holds .run) .first (pageAt (wordOf sh (p .first) (t .index)))
+          (low-page (s .shape) (p .first) (t .index) (t .inside) page-low) (high-page (s .shape) (p .first) (t .index) (t .inside) page-low)
 
       pub sits-at : outAt n b c sh w ≡ true
       unfolding outAt inRunOf

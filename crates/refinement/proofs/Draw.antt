@@ -26,7 +26,9 @@ use Rattle.pages.proofs.Draws.{draw-changes, draw-free, draw-carved}
 use Rattle.pages.proofs.SetOuts.{set-outs-at}
 use Rattle.refinement.specs.way.Represents.{Holds, PageRep}
 use Rattle.refinement.proofs.Basics.{Setting}
-use Rattle.refinement.proofs.Frames.{isData, ofClass, Only, data-owns, whole-kept, whole-in, whole-owner, marked-kept, slots-kept}
+use Rattle.pages.proofs.Runs.{whole-in, whole-owner}
+use Rattle.pages.proofs.Kept.{whole-kept}
+use Rattle.refinement.proofs.Frames.{isData, ofClass, Only, data-owns, marked-kept, slots-kept}
 use Rattle.refinement.proofs.Blocks.{map-append, map-reverse, map-take, map-drop, length-map, words-descending, fits, in-row, every-counts, top-entries-take, slots-drop}
 
 -- ---- the words

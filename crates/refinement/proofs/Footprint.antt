@@ -14,7 +14,7 @@ use Rattle.fields.specs.Field.{page, owner, pair, get}
 use Rattle.facts.proofs.Bools.{by-cases}
 use Rattle.pages.specs.Runs.{whole}
 use Rattle.refinement.specs.way.Footprint.{pageOf, footprint, off}
-use Rattle.refinement.proofs.Frames.{whole-owner}
+use Rattle.pages.proofs.Runs.{whole-owner}
 use Rattle.refinement.proofs.Override.{PageIn}
 use Rattle.refinement.proofs.LocalFill.{Home}
 use Rattle.refinement.proofs.LocalArena.{ArenaIn}

@@ -9,20 +9,21 @@ use mathlib.Core.Bool.{true, false, false≢true}
 use mathlib.Core.List.{List, _∷_, map}
 use mathlib.Core.Path.{_≡_, refl, sym, _∙_, subst}
 use lib.Dec.{eqb, ltb, leb, eqb·zero-suc}
-use borrow.Author.Tests.{eq-eqb, ne-eqb, eqb-true, ltb-true}
+use borrow.Author.Tests.{eq-eqb, ne-eqb, ltb-true, leb-true}
 use Rattle.facts.specs.Lists.{update}
 use Rattle.facts.proofs.Bools.{by-cases, and-left, and-right}
 use Rattle.model.specs.Cover.{inRun, covers}
 use Rattle.classes.specs.declared.Shape.{Shape}
 use Rattle.classes.specs.Shape.{shapeOf}
 use Rattle.classes.proofs.Shapes.{shape-sound}
-use Rattle.fields.specs.Field.{Field, PageField, arena, class, hole, page, mark, out, slot, owner, first, next, prev, free, carved, listed, virgin, tally, pageOff, get}
+use Rattle.fields.specs.Field.{Field, PageField, arena, class, hole, page, mark, out, slot, owner, first, next, prev, free, carved, listed, virgin, tally, pageOff}
 use Rattle.model.specs.Arena.{give}
 use Rattle.model.specs.Page.{Page, reused}
 use Rattle.model.specs.Class.{Class, thawed}
 use Rattle.model.specs.Heap as Heaps
 use Rattle.model.specs.Heap.{Heap, Holder, nobody, direct, isHeld, passTo}
 use Rattle.pages.specs.Runs.{whole}
+use Rattle.pages.proofs.Runs.{whole-says}
 use Rattle.pages.specs.declared.Park.the-variants.{Empty}
 use Rattle.arena.specs.Owners.{ownerCode}
 use Rattle.arena.specs.Calls.{given}
@@ -32,7 +33,7 @@ use Rattle.refinement.proofs.Frames.{ofClass, Only, only-rule}
 use Rattle.refinement.proofs.Kept.{class-beside}
 use Rattle.refinement.proofs.ArenaReached.{Reached, heapOf}
 use Rattle.refinement.proofs.ArenaValid.{loads-frontier}
-use Rattle.refinement.proofs.ArenaFrames.{whole-names, whole-ends, step-rule}
+use Rattle.refinement.proofs.ArenaFrames.{step-rule}
 use Rattle.refinement.proofs.ArenaSteps.{isArenas, rep-kept}
 use Rattle.refinement.proofs.ArenaRuns.{given-step}
 use Rattle.refinement.proofs.ArenaKeeps.{class-left, class-beside-left}
@@ -72,10 +73,9 @@ pub run-held : (n : ℕ) (b : List ℕ) (H : Heap) → ArenaRep n b H → (sh : 
 run-held n b H rep sh c q e x =
     by-cases (inRun (sh .pages) q x)
     (λ t. let u = ltb-true x (q + sh .pages) (and-right (leb q x) (ltb x (q + sh .pages)) t) in
-    let l : x < H .arena .frontier = omega (arith, whole-ends n b sh c q e .1, loads-frontier b (H .arena) (rep .loads)) in
-    let s = whole-names n b sh c q x e t in
-    let o = eqb-true (get b (page owner x)) (suc c) (and-left (eqb (get b (page owner x)) (suc c)) (eqb (get b (page first x)) q) s) in
-    rw t (held-by (H .holder x) c (sym (rep .owners x l) ∙ o)))
+    let w = whole-says n b sh c q e in
+    let l : x < H .arena .frontier = omega (arith, w .below, loads-frontier b (H .arena) (rep .loads)) in
+    rw t (held-by (H .holder x) c (sym (rep .owners x l) ∙ w .owner x (leb-true q x (and-left _ _ t)) u)))
     (λ t. rw t (omega arith))
 
 -- ---- the book b is the represented one but for words of class c, which lets its page p go

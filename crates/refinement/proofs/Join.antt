@@ -10,7 +10,7 @@ use mathlib.Core.Path.{_≡_, refl, sym, ap, _∙_, subst}
 use lib.Dec.{eqb, ltb, leb}
 use lib.ListN.{length}
 use borrow.Author.Tests.{eq-eqb, ne-eqb, le-leb, leb-true, ltb-true, lt-ltb}
-use Rattle.facts.proofs.Bools.{and-left, and-right}
+use Rattle.facts.proofs.Bools.{and-left, and-right, or-left, or-right}
 use Rattle.rules.specs.declared.Limits.{Limits}
 use Rattle.model.specs.Cover.{inRun, covers, coversRun}
 use Rattle.words.specs.Limits.{holeSlots}
@@ -19,7 +19,7 @@ use Rattle.classes.specs.Shape.{shapeOf}
 use Rattle.classes.proofs.Shapes.{shape-sound}
 use Rattle.fields.specs.Field as Field
 use Rattle.fields.specs.Field.{Field, arena, hole, page, mark, slot, out, first, next, prev, free, carved, listed, virgin, pageOff, get}
-use Rattle.fields.proofs.Changes.{Changes}
+use Rattle.fields.proofs.Changes.{Changes, changes-trans, changes-mono}
 use Rattle.model.specs.Page.{Page, carve}
 use Rattle.model.specs.Arena.{commit, Given}
 use Rattle.model.specs.Class.{Class}
@@ -28,6 +28,7 @@ use Rattle.model.proofs.ArenaLaws.{commit-law}
 use Rattle.model.proofs.IdlePages.{commit-below}
 use Rattle.words.specs.Host.{digit}
 use Rattle.pages.specs.Runs.{whole}
+use Rattle.pages.proofs.Kept.{changes-body}
 use Rattle.pages.specs.declared.Park.{Park}
 use Rattle.pages.specs.Carve.{newRun}
 use Rattle.arena.specs.Calls.{commitBook}
@@ -37,7 +38,7 @@ use Rattle.refinement.proofs.CommitRuns.{claim-none, claim-others, clai
 use Rattle.refinement.specs.way.Represents.{ClassRep, Represents, RuleRep}
 use Rattle.refinement.proofs.ArenaStored.{commit-stored, stored-few}
 use Rattle.refinement.proofs.ArenaReached.{Reached, heapOf, idle-once, reached-commit}
-use Rattle.refinement.proofs.ArenaFrames.{isStep, inRunOf, either, passed, step-row, step-page, step-first, step-out, step-mark, step-slot, committed-changes, step-rule}
+use Rattle.refinement.proofs.ArenaFrames.{isStep, inRunOf, either, passed, step-first, committed-changes, step-rule}
 use Rattle.refinement.proofs.ArenaSteps.{isArenas, rep-kept}
 use Rattle.refinement.proofs.ArenaRuns.{nobody-other, drawn-whole}
 use Rattle.refinement.proofs.CommitRep.{commit-rep}
@@ -134,6 +135,15 @@ module _ (n : ℕ) (b : List ℕ) (H : Heap) (R : Represents n b H) (ok : Reache
     pub written : Changes (isNew q pages) after new
     written = new-changes s₁ q (isNew q pages) (new-lets q pages)
 
+    -- the commit and the new run at once
+    abbrev isJoined : Field → Bool
+    isJoined g = isStep owned g || isNew q pages g
+
+    joined : Changes isJoined b new
+    joined =
+        changes-trans isJoined b after new (changes-mono (isStep owned) isJoined b after (λ g. or-left (isStep owned g) (isNew q pages g)) changes)
+        (changes-mono (isNew q pages) isJoined after new (λ g. or-right (isStep owned g) (isNew q pages g)) written)
+
     pub new-setting : Setting n new c (shapeOf c)
     new-setting = setting-kept new (written .long) s₁
 
@@ -153,7 +163,7 @@ module _ (n : ℕ) (b : List ℕ) (H : Heap) (R : Represents n b H) (ok : Reache
         new-names s₁ q within y (leb-true q y (and-left (leb q y) (ltb y (q + pages)) i)) (ltb-true y (q + pages) (and-right (leb q y) (ltb y (q + pages)) i))
 
     outside : (y : ℕ) → inRun (shapeOf c .pages) q y ≡ false → get new (page first y) ≡ get b (page first y)
-    outside y i = written .kept (page first y) refl (or-none (inRun pages q y) ∙ i) ∙ step-first owned b after changes y
+    outside y i = joined .kept (page first y) refl (or-none (inRun pages q y) ∙ i)
 
     -- which runs are whole: the new one, and the others as before; none was there
     pub same : (d x : ℕ) → (d ≡ c → x ≡ q → ⊥) → whole n new (shapeOf d) d x ≡ whole n b (shapeOf d) d x
@@ -170,25 +180,16 @@ module _ (n : ℕ) (b : List ℕ) (H : Heap) (R : Represents n b H) (ok : Reache
 
     new-keeps : {sh : Shape} {d : ℕ} (x : ℕ) → (x ≡ q → ⊥) → whole n new sh d x ≡ true → Keeps n sh d b new x
     new-keeps x ne w =
-        let p : (k : Field.PageField) → eqb (pageOff k) 0 ≡ false → isNew q (shapeOf c .pages) (page k x) ≡ false → get new (page k x) ≡ get b (page k x)
-        = λ k t f. written .kept (page k x) refl f ∙ step-page owned b after changes k x t in
         let off = ne-eqb x q ne in
         record {
-          body = record {
-            free = p free refl off;
-            carved = p carved refl off;
-            virgin = p virgin refl off;
-            slots = λ i t. written .kept (slot x i) t off ∙ step-slot owned b after changes x i t;
-            outs = λ i t. written .kept (out x i) t off ∙ step-out owned b after changes x i t;
-            marks = λ j t. written .kept (mark x j) t off ∙ step-mark owned b after changes x j t;
-          };
-          listing = p listed refl off;
-          ties = record { fore = p next refl off; back = p prev refl off };
+          body = changes-body joined x off off off (λ i. off) (λ i. off) (λ j. off);
+          listing = joined .kept (page listed x) refl off;
+          ties = record { fore = joined .kept (page next x) refl off; back = joined .kept (page prev x) refl off };
           run = w;
         }
 
     row : (f : Field.ClassField) (d : ℕ) → ltb d 76 ≡ true → get new (Field.class f d) ≡ get b (Field.class f d)
-    row f d hd = written .kept (Field.class f d) hd refl ∙ step-row owned b after changes f d hd
+    row f d hd = joined .kept (Field.class f d) hd refl
 
     pub new-rule : (d : ℕ) {lim : Limits} → ltb d 76 ≡ true → RuleRep b d lim → RuleRep new d lim
     new-rule d hd = rule-kept (row Field.emptyLimit d hd) (row Field.coldLimit d hd)

@@ -1,5 +1,5 @@
 -- What of the representation a change leaves alone.
---     Body, Ties      the words of a page's blocks are as they were; so are its links
+--     Ties            a page's links are as they were
 --     Keeps           a page of a class is as it was, and the class's
 --     class-now       a class whose row and listed pages are as they were, with other pages in no list
 --     class-kept      a class that is as it was
@@ -16,26 +16,20 @@ use Rattle.facts.proofs.Bools.{by-cases}
 use Rattle.facts.specs.Lists.{All, count}
 use Rattle.classes.specs.declared.Shape.{Shape}
 use Rattle.classes.specs.way.Sound.{Sound}
-use Rattle.fields.specs.Field.{ClassField, class, page, mark, slot, out, partial, owner, next, prev, free, carved, listed, virgin, get, classOff}
+use Rattle.fields.specs.Field.{ClassField, class, page, partial, owner, next, prev, free, carved, listed, virgin, get, classOff}
 use Rattle.model.specs.Page.{Page}
 use Rattle.model.proofs.Pages.{all-append}
 use Rattle.words.specs.Host.{digit}
 use Rattle.pages.specs.Runs.{whole}
+use Rattle.pages.proofs.Runs.{whole-owner}
+use Rattle.pages.proofs.Kept.{Body, changes-body, whole-kept}
 use Rattle.pages.specs.Stack.{outBit}
 use Rattle.pages.specs.declared.Park.{Park}
 use Rattle.pages.specs.Links.{other, top, stored}
 use Rattle.refinement.specs.way.Chain.{In, Chain, Line, Stack}
 use Rattle.refinement.specs.way.Represents.{Holds, PageRep, Parked, firsts, heads, ClassRep}
 use Rattle.refinement.proofs.Lists.{segment-kept, in-count, all-along}
-use Rattle.refinement.proofs.Frames.{Only, only-owns, whole-kept, whole-owner, marked-kept, slots-kept}
-
-pub record Body (q : ℕ) (b b′ : List ℕ) : Type 0 where
-  pub free : get b′ (page free q) ≡ get b (page free q)
-  pub carved : get b′ (page carved q) ≡ get b (page carved q)
-  pub virgin : get b′ (page virgin q) ≡ get b (page virgin q)
-  pub slots : (i : ℕ) → ltb i 4096 ≡ true → get b′ (slot q i) ≡ get b (slot q i)
-  pub outs : (i : ℕ) → ltb i 4096 ≡ true → get b′ (out q i) ≡ get b (out q i)
-  pub marks : (j : ℕ) → ltb j 128 ≡ true → get b′ (mark q j) ≡ get b (mark q j)
+use Rattle.refinement.proofs.Frames.{Only, only-owns, marked-kept, slots-kept}
 
 pub record Ties (q : ℕ) (b b′ : List ℕ) : Type 0 where
   pub fore : get b′ (page next q) ≡ get b (page next q)
@@ -140,14 +134,7 @@ module _ (c d : ℕ) (ne : c ≡ d → ⊥) {b b′ : List ℕ} (h : Only d b b�
 
   pub keeps-far : {n : ℕ} {sh : Shape} → whole n b′ sh c q ≡ true → Keeps n sh c b b′ q
   keeps-far w = record {
-    body = record {
-      free = h .kept (page free q) refl far;
-      carved = h .kept (page carved q) refl far;
-      virgin = h .kept (page virgin q) refl far;
-      slots = λ i e. h .kept (slot q i) e far;
-      outs = λ i e. h .kept (out q i) e far;
-      marks = λ j e. h .kept (mark q j) e far;
-    };
+    body = changes-body h q far far far (λ i. far) (λ i. far) (λ j. far);
     listing = h .kept (page listed q) refl far;
     ties = record { fore = h .kept (page next q) refl far; back = h .kept (page prev q) refl far };
     run = w;

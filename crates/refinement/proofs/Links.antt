@@ -10,14 +10,15 @@ use mathlib.Core.Path.{_≡_, refl}
 use lib.Dec.{eqb, ltb}
 use borrow.Author.Tests.{eq-eqb, ne-eqb}
 use Rattle.facts.proofs.Bools.{or-right}
-use Rattle.fields.specs.Field.{Field, arena, class, hole, page, mark, slot, out, partial, owner, first, next, prev, free, carved, listed, virgin, frontier, classOff, pageOff, get}
+use Rattle.fields.specs.Field.{Field, arena, class, hole, page, mark, slot, out, partial, owner, next, prev, listed, classOff, pageOff, get}
 use Rattle.fields.proofs.Changes.{Changes}
 use Rattle.pages.specs.declared.Park.{Park}
 use Rattle.pages.specs.declared.Park.the-variants.{Empty, Cold}
 use Rattle.pages.specs.Links.{link, unlink, top, stored, other, parkRun, popStore}
 use Rattle.pages.proofs.Frames.{changes-link, changes-unlink, changes-park-run, changes-pop-store}
-use Rattle.refinement.proofs.Frames.{ofClass, Owns}
-use Rattle.refinement.proofs.Kept.{Body, Ties}
+use Rattle.pages.proofs.Kept.{Owns, Body, changes-owns, changes-body}
+use Rattle.refinement.proofs.Frames.{ofClass}
+use Rattle.refinement.proofs.Kept.{Ties}
 
 -- ---- the partial list
 abbrev pub isLink : ℕ → ℕ → ℕ → ℕ → Field → Bool
@@ -72,17 +73,10 @@ module _ (t : Field → Bool) (b : List ℕ) (c q : ℕ) (row : ltb c 76 ≡ tru
 -- what linking leaves alone
 module _ {b b′ : List ℕ} (c q x y : ℕ) (h : Changes (isLink c q x y) b b′) where
   pub link-owns : Owns b b′
-  link-owns = record { owners = λ z. h .kept (page owner z) refl refl; starts = λ z. h .kept (page first z) refl refl; bound = h .kept (arena frontier) refl refl }
+  link-owns = changes-owns h (λ z. refl) (λ z. refl) refl
 
   pub link-body : (z : ℕ) → Body z b b′
-  link-body z = record {
-    free = h .kept (page free z) refl refl;
-    carved = h .kept (page carved z) refl refl;
-    virgin = h .kept (page virgin z) refl refl;
-    slots = λ i o. h .kept (slot z i) o refl;
-    outs = λ i o. h .kept (out z i) o refl;
-    marks = λ j o. h .kept (mark z j) o refl;
-  }
+  link-body z = changes-body h z refl refl refl (λ i. refl) (λ i. refl) (λ j. refl)
 
   pub link-listing : (z : ℕ) → (z ≡ q → ⊥) → get b′ (page listed z) ≡ get b (page listed z)
   link-listing z d = h .kept (page listed z) refl (ne-eqb z q d)
@@ -133,17 +127,10 @@ module _ (t : Field → Bool) (b : List ℕ) (c q : ℕ) (row : ltb c 76 ≡ tru
 
 module _ {b b′ : List ℕ} (k : Park) (c q : ℕ) (h : Changes (isParkRun k c q) b b′) where
   pub park-run-owns : Owns b b′
-  park-run-owns = record { owners = λ z. h .kept (page owner z) refl refl; starts = λ z. h .kept (page first z) refl refl; bound = h .kept (arena frontier) refl refl }
+  park-run-owns = changes-owns h (λ z. refl) (λ z. refl) refl
 
   pub park-run-body : (z : ℕ) → Body z b b′
-  park-run-body z = record {
-    free = h .kept (page free z) refl refl;
-    carved = h .kept (page carved z) refl refl;
-    virgin = h .kept (page virgin z) refl refl;
-    slots = λ i o. h .kept (slot z i) o refl;
-    outs = λ i o. h .kept (out z i) o refl;
-    marks = λ j o. h .kept (mark z j) o refl;
-  }
+  park-run-body z = changes-body h z refl refl refl (λ i. refl) (λ i. refl) (λ j. refl)
 
   pub park-run-listing : (z : ℕ) → get b′ (page listed z) ≡ get b (page listed z)
   park-run-listing z = h .kept (page listed z) refl refl

@@ -23,7 +23,8 @@ use Rattle.pages.proofs.Descending.{small, every-below}
 use Rattle.calls.specs.Take.{Filled, filledNone, thenFilled, unlistSpent, fillFrom}
 use Rattle.refinement.specs.way.Represents.{Slots, heads, ClassRep}
 use Rattle.refinement.proofs.Basics.{Setting, setting-kept}
-use Rattle.refinement.proofs.Frames.{Only, only-owns, whole-kept}
+use Rattle.pages.proofs.Kept.{whole-kept}
+use Rattle.refinement.proofs.Frames.{Only, only-owns}
 use Rattle.refinement.proofs.Neighbours.{each-listed, each-head, each-beside}
 use Rattle.refinement.proofs.Moves.{at-partial, from-partial, from-store, to-partial, unlink-only, pop-store-only, link-only}
 use Rattle.refinement.proofs.Draw.{latest-fit, draw-data, draw-only, pop-rep}

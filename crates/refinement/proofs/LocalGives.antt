@@ -1,6 +1,6 @@
 -- Runs of a class that go to the arena keep to the arena's words and those of the class's pages.
 --     all-local     the gives, one after the other
-use Prim.Native.Nat.{ℕ, suc, _+_, _-_, _≤_}
+use Prim.Native.Nat.{ℕ, suc, _≤_}
 use native.Mathlib.Omega.{arith}
 use mathlib.Core.Bool.{Bool, true, cond}
 use mathlib.Core.List.{List, [], _∷_}
@@ -11,7 +11,7 @@ use Rattle.facts.proofs.Bools.{by-cases}
 use Rattle.words.specs.Limits.{holeSlots}
 use Rattle.classes.specs.Shape.{shapeOf}
 use Rattle.classes.proofs.Shapes.{shape-sound}
-use Rattle.fields.specs.Field.{arena, page, holes, owner, get}
+use Rattle.fields.specs.Field.{arena, holes, owner, get}
 use Rattle.model.specs.Cover.{covers}
 use Rattle.model.specs.Page.{Page}
 use Rattle.model.specs.Class.{Class}
@@ -24,7 +24,8 @@ use Rattle.arena.specs.Calls.{given}
 use Rattle.pages.specs.Runs.{whole}
 use Rattle.calls.specs.Chunks.{giveRuns}
 use Rattle.refinement.specs.way.Represents.{firsts, StateRep, Represents}
-use Rattle.refinement.proofs.Frames.{Only, whole-says}
+use Rattle.pages.proofs.Runs.{whole-says}
+use Rattle.refinement.proofs.Frames.{Only}
 use Rattle.refinement.proofs.ArenaReached.{Reached}
 use Rattle.refinement.proofs.ArenaValid.{loads-frontier, loads-number}
 use Rattle.refinement.proofs.ReleaseGives.{waiting, state, next, next-reached, next-represents, next-class, left, left-represents, left-reached, left-class}
@@ -36,9 +37,7 @@ module _ (n c : ℕ) (hc : ltb c 76 ≡ true) {S : ℕ → Bool} (ai : ArenaIn S
       → (q : ℕ) → whole n b (shapeOf c) c q ≡ true → RunIn S q (shapeOf c .pages)
   run-in b H R kin q e x u v =
       let w = whole-says n b (shapeOf c) c q e in
-      let z : q + (x - q) ≡ x = omega arith in
-      let o : get b (page owner x) ≡ suc c = subst (λ (y : ℕ). get b (page owner y) ≡ suc c) z (w .owner (x - q) (omega arith)) in
-      kin x (sym (R .arena .owners x (omega (arith, w .below, loads-frontier b (H .arena) (R .arena .loads)))) ∙ o)
+      kin x (sym (R .arena .owners x (omega (arith, w .below, loads-frontier b (H .arena) (R .arena .loads)))) ∙ w .owner x u v)
 
   -- a page that is the class's after a give was so before
   still : (k : ℕ) (w : Holder) → ownerCode (cond (eqb k 0) w nobody) ≡ suc c → ownerCode w ≡ suc c

@@ -1,6 +1,6 @@
 -- The steps on a class's pages keep to the words of its row and of those pages: each is the same step on two books put together, with
 -- the other words as they were. S has the words of the row of c and of page q.
-use Prim.Native.Nat.{ℕ, zero, suc, _+_, _-_, _≤_}
+use Prim.Native.Nat.{ℕ, zero, suc, _+_, _≤_}
 use native.Mathlib.Omega.{arith}
 use mathlib.Core.Bool.{Bool, true}
 use mathlib.Core.List.{List, [], _∷_}
@@ -18,6 +18,7 @@ use Rattle.pages.specs.declared.Park.{Park}
 use Rattle.pages.specs.Links.{pointNext, linked, cutOut, link, unlink, parkRun, popStore}
 use Rattle.pages.specs.Carve.{stocked, carveAnew}
 use Rattle.pages.proofs.Descending.{small, length-descending}
+use Rattle.pages.proofs.TopEntries.{top-entries-kept}
 use Rattle.pages.proofs.Frames.{back-free}
 use Rattle.calls.specs.Release.{unlisted, relisted, emptied}
 use Rattle.refinement.proofs.Neighbours.{Named}
@@ -36,9 +37,7 @@ module _ {S : ℕ → Bool} {q : ℕ} (p : PageIn S q) (b d : List ℕ) where
   push-in t (i ∷ is) h = rw (push-in t is (omega arith)) (put-slot p (push b q t is) d (t + length is) i (omega arith))
 
   top-entries-in : (m t : ℕ) → t ≤ 4096 → topEntries (override S b d) q m t ≡ topEntries b q m t
-  top-entries-in zero t h = refl
-  top-entries-in (suc m) zero h = refl
-  top-entries-in (suc m) (suc t) h = rw (get-slot p b d t (omega arith), top-entries-in m t (omega arith))
+  top-entries-in m t h = top-entries-kept b (override S b d) q m t (λ i l. get-slot p b d i (omega arith))
 
   pub more-in : (sh : Shape) → hasMore (override S b d) sh q ≡ hasMore b sh q
   unfolding hasMore

@@ -14,7 +14,6 @@ use borrow.Author.Tests.{eqb-false}
 use Rattle.classes.specs.Shape.{shapeOf}
 use Rattle.classes.proofs.Shapes.{shape-sound}
 use Rattle.fields.specs.Ranges.{maxPages}
-use Rattle.model.specs.Calls as Calls
 use Rattle.model.specs.Calls.{Request, take, giveBack, giveChunks}
 use Rattle.model.specs.Page.{Page}
 use Rattle.model.specs.Class.{Ask, lists, takeFrom}
@@ -35,7 +34,7 @@ use Rattle.refinement.specs.Run.{classReply}
 use Rattle.refinement.proofs.ArenaReached.{Reached}
 use Rattle.refinement.proofs.ArenaValid.{loads-frontier}
 use Rattle.refinement.proofs.Book.{setting-of, state-as, frontier-in}
-use Rattle.refinement.proofs.Frames.{whole-owner, whole-below}
+use Rattle.pages.proofs.Runs.{whole-owner, whole-below}
 use Rattle.refinement.proofs.ArenaHolders.{small-class}
 use Rattle.refinement.proofs.Override.{override, override-same, PageIn, swapped}
 use Rattle.refinement.proofs.LocalFill.{Home}

@@ -14,7 +14,7 @@ use borrow.Author.Tests.{ne-eqb, eq-eqb}
 use Rattle.facts.specs.Lists.{All, count}
 use Rattle.classes.specs.declared.Shape.{Shape}
 use Rattle.classes.specs.way.Sound.{Sound}
-use Rattle.fields.specs.Field.{class, page, mark, slot, out, partial, owner, next, prev, free, carved, listed, virgin, get, put, words}
+use Rattle.fields.specs.Field.{class, page, partial, owner, next, prev, listed, get, put, words}
 use Rattle.fields.proofs.Laws.{get-put-same, length-put}
 use Rattle.fields.proofs.Changes.{Changes}
 use Rattle.model.specs.Page.{Page}
@@ -30,8 +30,10 @@ use Rattle.refinement.specs.way.Represents.{PageRep, Parked, firsts, hea
 use Rattle.refinement.proofs.ArenaStore.{long-kept}
 use Rattle.refinement.proofs.Basics.{Setting}
 use Rattle.refinement.proofs.Lists.{in-left, in-count, off, not-in, firsts-append, firsts-at, heads-at, all-along, last-page, part}
-use Rattle.refinement.proofs.Frames.{isData, ofClass, Only, data-owns, whole-kept, whole-owner, whole-in}
-use Rattle.refinement.proofs.Kept.{Body, Ties, rep-kept, rep-moved, parked-kept, stack-kept, chain-kept, class-now, listed-whole}
+use Rattle.pages.proofs.Runs.{whole-owner, whole-in}
+use Rattle.pages.proofs.Kept.{Body, changes-body, whole-kept}
+use Rattle.refinement.proofs.Frames.{isData, ofClass, Only, data-owns}
+use Rattle.refinement.proofs.Kept.{Ties, rep-kept, rep-moved, parked-kept, stack-kept, chain-kept, class-now, listed-whole}
 use Rattle.refinement.proofs.Neighbours.{each-listed, each-head, each-beside}
 use Rattle.refinement.proofs.Links.{isLink, isParkRun, link-lets, class-lets, link-changes, unlink-changes, link-owns, link-body, link-listing, link-next, link-top, link-stored, park-run-lets, class-lets-park-run, park-run-changes, pop-store-changes, park-run-owns, park-run-body, park-run-listing, park-run-ties, park-run-partial, park-run-top, park-run-stored}
 use Rattle.refinement.proofs.Linked.{chain-linked, chain-unlinked, stack-parked, stack-popped}
@@ -102,14 +104,7 @@ OwnedBy b c x = get b (page owner x) ≡ suc c
 
 -- ---- a page gets other blocks
 pub data-body : (q : ℕ) {b b′ : List ℕ} → Changes (isData q) b b′ → (x : ℕ) → (x ≡ q → ⊥) → Body x b b′
-data-body q h x d = record {
-  free = h .kept (page free x) refl (ne-eqb x q d);
-  carved = h .kept (page carved x) refl (ne-eqb x q d);
-  virgin = h .kept (page virgin x) refl (ne-eqb x q d);
-  slots = λ i o. h .kept (slot x i) o (ne-eqb x q d);
-  outs = λ i o. h .kept (out x i) o (ne-eqb x q d);
-  marks = λ j o. h .kept (mark x j) o refl;
-}
+data-body q h x d = let e = ne-eqb x q d in changes-body h x e e e (λ i. e) (λ i. e) (λ j. refl)
 
 pub data-ties : (q : ℕ) {b b′ : List ℕ} → Changes (isData q) b b′ → (x : ℕ) → Ties x b b′
 data-ties q h x = record { fore = h .kept (page next x) refl refl; back = h .kept (page prev x) refl refl }

@@ -28,7 +28,7 @@ use Rattle.pages.proofs.Descending.{digit-cases}
 use Rattle.refinement.specs.way.Chain.{Segment, Line, Stack}
 use Rattle.refinement.specs.way.Represents.{Holds, PageRep, Parked, firsts}
 use Rattle.refinement.proofs.Basics.{digit-small}
-use Rattle.refinement.proofs.Frames.{whole-below}
+use Rattle.pages.proofs.Runs.{whole-below}
 use Rattle.refinement.proofs.Blocks.{few-counts, every-counts, top-entries-take}
 use Rattle.refinement.proofs.Draw.{more-is}
 use Rattle.refinement.proofs.Fill.{AllMore, pred}

@@ -34,7 +34,9 @@ use Rattle.calls.specs.Release.{Released, released, unlisted, relisted, parkCol
 use Rattle.calls.specs.Chunks.{chunkBackAt}
 use Rattle.refinement.specs.way.Represents.{PageRep, firsts, ClassRep, RuleRep}
 use Rattle.refinement.proofs.Basics.{Setting, setting-kept}
-use Rattle.refinement.proofs.Frames.{ofClass, Only, only-trans, only-rule, data-owns, whole-kept, whole-in, whole-owner}
+use Rattle.pages.proofs.Runs.{whole-in, whole-owner}
+use Rattle.pages.proofs.Kept.{whole-kept}
+use Rattle.refinement.proofs.Frames.{ofClass, Only, only-trans, only-rule, data-owns}
 use Rattle.refinement.proofs.Moves.{swap, at-full, to-store, park-run-only}
 use Rattle.refinement.proofs.Pushes.{anew-data, anew-only, anew-marked, anew-holds, carve-first, carve-rep}
 use Rattle.refinement.proofs.Found.{Away, Placed, among, aside, placed-rep, placed-data, placed-out, out-only, placed-in, in-only}

@@ -29,7 +29,7 @@ use Rattle.refinement.specs.way.Chain.{In, Line}
 use Rattle.refinement.specs.way.Represents.{firsts, heads, ClassRep, RuleRep, Represents}
 use Rattle.refinement.proofs.Basics.{Setting, digit-small}
 use Rattle.refinement.proofs.Lists.{in-count}
-use Rattle.refinement.proofs.Frames.{whole-below}
+use Rattle.pages.proofs.Runs.{whole-below}
 use Rattle.refinement.proofs.Neighbours.{each-listed, each-head, each-beside}
 use Rattle.refinement.proofs.Draw.{free-length}
 use Rattle.refinement.proofs.ArenaReached.{Reached}

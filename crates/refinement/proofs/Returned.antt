@@ -32,7 +32,9 @@ use Rattle.calls.specs.Release.{emptied}
 use Rattle.refinement.specs.way.Represents.{Holds, PageRep}
 use Rattle.refinement.proofs.ArenaStore.{long-kept}
 use Rattle.refinement.proofs.Basics.{Setting, setting-kept, digit-le, digit-false, digit-cases}
-use Rattle.refinement.proofs.Frames.{isData, ofClass, Only, data-owns, whole-kept, whole-in, whole-owner, marked-kept, slots-kept}
+use Rattle.pages.proofs.Runs.{whole-in, whole-owner}
+use Rattle.pages.proofs.Kept.{whole-kept}
+use Rattle.refinement.proofs.Frames.{isData, ofClass, Only, data-owns, marked-kept, slots-kept}
 use Rattle.refinement.proofs.Blocks.{map-append, length-map, fits, in-row, few-counts, every-counts}
 use Rattle.refinement.proofs.Pushes.{push-slots, slots-under}
 use Rattle.refinement.proofs.Draw.{free-length}

@@ -19,10 +19,11 @@ use Rattle.fields.proofs.Outcome.{get-putAt-other}
 use Rattle.fields.proofs.Changes.{Changes, changes-trans}
 use Rattle.pages.specs.Stack.{latest, draw, hasMore}
 use Rattle.pages.specs.Links.{cutOut, unlink}
+use Rattle.pages.proofs.Runs.{whole-in}
 use Rattle.pages.proofs.Draws.{draw-changes}
 use Rattle.pages.proofs.Frames.{changes-unlink}
 use Rattle.calls.specs.Take.{walk, Filled, filledNone, unlistSpent, fillFrom}
-use Rattle.take.proofs.TakePages.{Valid, whole-below, latest-most}
+use Rattle.take.proofs.TakePages.{Valid, latest-most}
 use Rattle.take.proofs.TakeDraws.{latest-small, draw-full}
 use Rattle.take.proofs.Walk.{Planned, planned, planned-stops, stops, stops-full, some-page, Step, walk-below, walk-stops, walk-step, isTurned, head-kept}
 
@@ -57,7 +58,7 @@ pub record Turned (n : ℕ) (b b₁ : List ℕ) (c : ℕ) (sh : Shape) (k m x : 
 
 module _ (n : ℕ) (b : List ℕ) (hb : leb (words n) (length b) ≡ true) (c : ℕ) (hc : ltb c 76 ≡ true) (sh : Shape) (sd : Sound sh) (bound : get b (arena frontier) ≤ n) where
   pub page-there : (l m q : ℕ) → Valid n b c sh l m q → ltb q n ≡ true
-  page-there l m q f = lt-ltb q n (omega (arith, whole-below n b c sh q (f .run), sd .paged))
+  page-there l m q f = whole-in n b sd c q (f .run)
 
   module _ (k m : ℕ) (e : stops m (get b (class partial c)) ≡ false) (w : walk n b c sh (suc k) m (get b (class partial c)) 0 ≡ true) where
     abbrev code : ℕ

@@ -15,11 +15,12 @@ use Rattle.model.specs.Page.{wordOf}
 use Rattle.pages.specs.Stack.{latest, draw, hasMore, spliced, Drawn}
 use Rattle.pages.specs.Links.{unlink}
 use Rattle.pages.specs.way.Pre.{DrawPre, UnlinkPre}
+use Rattle.pages.proofs.Runs.{whole-says}
 use Rattle.pages.proofs.Draws.{draw-changes}
 use Rattle.pages.proofs.Spliced.{length-spliced}
 use Rattle.calls.specs.Take.{walk, filledNone, thenFilled, unlistSpent, fillFrom}
 use Rattle.take.specs.way.TakePlan.{TakePre, fills, TurnPre, GaveTurn, FillPre, Filling}
-use Rattle.take.proofs.TakePages.{whole-below, latest-some, latest-most, positive}
+use Rattle.take.proofs.TakePages.{latest-some, latest-most, positive}
 use Rattle.take.proofs.TakeDraws.{latest-small}
 use Rattle.take.proofs.Walk.{stops, some-wanted, some-page, Step, walk-below, walk-step}
 use Rattle.take.proofs.Fill.{isCount, Turned, turned, fill-stops, length-map}
@@ -133,7 +134,7 @@ module _ (b : List ℕ) (c : ℕ) (sh : Shape) (l : List ℕ) (at m : ℕ) where
   pre-of : (n k : ℕ) → TakePre n b c sh → at ≤ length l → Turning n k → TurnPre b c sh l at m
   pre-of n k a p t =
       let f = t .step .valid in
-      let r = whole-below n b c sh (code - 1) (f .run) in
+      let r = whole-says n b sh c (code - 1) (f .run) .inside in
       let nx = leb-true (get b (page next (code - 1))) (get b (arena frontier)) (walk-below n b c sh k (m - length blocks₁) (get b (page next (code - 1))) code (t .step .rest)) in
       record {
         known = a .known;

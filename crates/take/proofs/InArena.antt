@@ -24,10 +24,11 @@ use Rattle.pages.specs.Links.{link, top}
 use Rattle.pages.specs.Carve.{newRun}
 use Rattle.pages.specs.declared.Park.{Park}
 use Rattle.pages.specs.declared.Park.the-variants.{Empty, Cold}
+use Rattle.pages.proofs.Runs.{whole-says}
 use Rattle.pages.proofs.Draws.{latest-below}
 use Rattle.calls.specs.Take.{Took, tookNone, walk, parkValid, fillFrom, unlistSpent, filled, fromPartial, fromPark, onRun, takeNew, takeBlocks, takeCall}
 use Rattle.take.specs.way.TakePlan.{TakePre, ParkedPre, TakeRunPre, walksFrom, fills, unparked}
-use Rattle.take.proofs.TakePages.{whole-below, positive}
+use Rattle.take.proofs.TakePages.{positive}
 use Rattle.take.proofs.Walk.{stops, walk-step}
 use Rattle.take.proofs.Fill.{turned}
 use Rattle.take.proofs.TakeParked.{unparked-pre, unparked-walks}
@@ -75,7 +76,7 @@ module _ (n : ℕ) (few : n ≤ maxPages) (c : ℕ) (sh : Shape) (sd : Sound sh)
       rw e
       (all-append (Low n) (fillFrom (unlistSpent (draw b sh q m) c sh q) c sh k (m - length (latest b sh q m)) .blocks) (map (wordOf sh q) (latest b sh q m))
       (fill-low hc k (m - length (latest b sh q m)) (unlistSpent (draw b sh q m) c sh q) (rw (t .long) hb) (rw (t .frontier) bound) (t .walks))
-      (words-low q (whole-below n b c sh q (f .run)) (latest b sh q m) (latest-below b sh q m (leb-true _ _ (f .within)) (f .entries)))))
+      (words-low q (whole-says n b sh c q (f .run) .inside) (latest b sh q m) (latest-below b sh q m (leb-true _ _ (f .within)) (f .entries)))))
 
   module _ (l : List ℕ) where
     filled-low : (b : List ℕ) → TakePre n b c sh → walksFrom n b c sh ≡ true → InArena n (filled b c sh l)

@@ -13,13 +13,14 @@ use Rattle.classes.specs.declared.Shape.{Shape}
 use Rattle.fields.specs.Field.{arena, class, page, frontier, partial, next, prev, free, carved, listed, virgin, words, Has, get}
 use Rattle.pages.specs.Runs.{whole}
 use Rattle.pages.specs.Stack.{topEntries, latest, hasMore}
+use Rattle.pages.proofs.Runs.{whole-says}
 use Rattle.pages.proofs.Draws.{latest-length}
 use Rattle.pages.specs.Valid.{headerValid}
 use Rattle.pages.proofs.ValidLaws.{carved-low, room-left}
 use Rattle.calls.specs.Take.{pageReady, sound, walk}
 use Rattle.take.specs.declared.take_plan.Plan.the-variants.{Refused, Fill}
 use Rattle.take.specs.way.TakePlan.{TakePre, TopEntriesPre, SupplyPre, share, walksFrom, fills, Foretold}
-use Rattle.take.proofs.TakePages.{sound-valid, valid-sound, whole-below, latest-some, latest-most, positive}
+use Rattle.take.proofs.TakePages.{sound-valid, valid-sound, latest-some, latest-most, positive}
 use Rattle.take.proofs.Walk.{planned, planned-stops, planned-goes, stops, stops-full, stops-none, walk-stops, walk-step}
 use Rattle.take.proofs.Fill.{fill-planned}
 
@@ -73,7 +74,7 @@ module _ (n : ℕ) (b : List ℕ) (c : ℕ) (sh : Shape) (l m q : ℕ) where
   sound-top-entries w h f k r e₁ t₁ e₂ t₂ e₃ e₄ e₅ = rw (← e₁, not-false w t₁, ← e₂, not-false h t₂, ← e₃, ← e₄) e₅
 
   pub run-there : (w : Bool) → TakePre n b c sh → w ≡ whole n b sh c q → not w ≡ false → words (q + 1) ≤ length b
-  run-there w a e t = omega (arith, whole-below n b c sh q (sym e ∙ not-false w t), a .long, a .shape .paged)
+  run-there w a e t = omega (arith, whole-says n b sh c q (sym e ∙ not-false w t) .inside, a .long, a .shape .paged)
 
   pub run-free : (w : Bool) → TakePre n b c sh → w ≡ whole n b sh c q → not w ≡ false → Has b (page free q)
   run-free w a e t = omega (arith, run-there w a e t)

@@ -12,14 +12,15 @@ use lib.Dec.{eqb, ltb, leb}
 use lib.ListN.{length}
 use borrow.Author.Tests.{le-leb, leb-true, eq-eqb, ne-eqb}
 use Rattle.classes.specs.declared.Shape.{Shape}
-use Rattle.fields.specs.Field.{Field, arena, mark, class, hole, page, out, slot, frontier, partial, owner, first, next, prev, free, carved, listed, virgin, classOff, pageOff, get, put, words}
+use Rattle.fields.specs.Field.{Field, arena, mark, class, hole, page, out, slot, frontier, partial, next, prev, listed, virgin, classOff, pageOff, get, put, words}
 use Rattle.fields.proofs.Laws.{get-put-same, get-put-other, length-put}
 use Rattle.fields.proofs.Changes.{Changes}
 use Rattle.pages.specs.Stack.{latest}
 use Rattle.pages.specs.Links.{linked, link}
+use Rattle.pages.proofs.Kept.{Owns, Body, changes-owns, changes-body, latest-kept}
 use Rattle.pages.proofs.Frames.{changes-link}
 use Rattle.calls.specs.Take.{walk}
-use Rattle.take.proofs.TakePages.{Valid, Alike, valid-alike, latest-alike}
+use Rattle.take.proofs.TakePages.{Valid, valid-kept}
 use Rattle.take.proofs.Walk.{plannedNone, thenPlanned, planned, planned-stops, planned-goes, stops, stops-none, walk-stops, step-walk}
 
 abbrev pub isLinked : ℕ → ℕ → Field → Bool
@@ -53,18 +54,11 @@ module _ (n : ℕ) (b : List ℕ) (hb : leb (words n) (length b) ≡ true) (c : 
   pub link-listed : get (link b c q) (page listed q) ≡ 1
   link-listed = rw link-is (simp (get-put-same n, length-put, hb))
 
-  pub link-alike : Alike b (link b c q) q
-  link-alike =
-      let k = link-changes in
-      record {
-        frontier = k .kept (arena frontier) refl refl;
-        owners = λ x. k .kept (page owner x) refl refl;
-        firsts = λ x. k .kept (page first x) refl refl;
-        free = k .kept (page free q) refl refl;
-        carved = k .kept (page carved q) refl refl;
-        virgin = k .kept (page virgin q) refl refl;
-        slots = λ i o. k .kept (slot q i) o refl;
-      }
+  link-owns : Owns b (link b c q)
+  link-owns = changes-owns link-changes (λ x. refl) (λ x. refl) refl
+
+  link-body : Body q b (link b c q)
+  link-body = changes-body link-changes q refl refl refl (λ i. refl) (λ i. refl) (λ j. refl)
 
   module _ (sh : Shape) (few : sh .capacity ≤ 4096) (l m k : ℕ) (f : Valid n b c sh l m q) (wanted : m ≡ 0 → ⊥) (bound : suc q ≤ get b (arena frontier)) where
     pred : suc q - 1 ≡ q
@@ -77,18 +71,18 @@ module _ (n : ℕ) (b : List ℕ) (hb : leb (words n) (length b) ≡ true) (c : 
     walks-suc =
         rw link-head
         (step-walk n (link b c q) c sh k m (suc q) 0 goes (record {
-          below = le-leb (suc q) (get (link b c q) (arena frontier)) (rw (link-alike .frontier) bound);
+          below = le-leb (suc q) (get (link b c q) (arena frontier)) (rw (link-owns .bound) bound);
           before = rw pred link-prev;
-          valid = rw pred (valid-alike b (link b c q) q link-alike n c sh l 1 m few link-listed f);
+          valid = rw pred (valid-kept link-owns link-body n c sh l 1 m few link-listed f);
           rest = rw (pred, link-next) (walk-stops n (link b c q) c sh k (m - length (latest (link b c q) sh q m)) 0 (suc q) (stops-none (m - length (latest (link b c q) sh q m)) 0 refl) ∙ le-leb 0 (get (link b c q) (arena frontier)) (omega arith));
         }))
 
     planned-suc : planned (link b c q) sh (suc k) m (get (link b c q) (class partial c)) ≡ record { count = length (latest b sh q m); virgin = eqb (get b (page virgin q)) 1 }
     planned-suc =
-        let la = latest-alike b (link b c q) q link-alike sh m (omega (arith, leb-true, f .stack, f .within)) in
+        let la = latest-kept link-body sh m (omega (arith, leb-true, f .stack, f .within)) in
         rw link-head
         (planned-goes (link b c q) sh k m (suc q) goes
-        ∙ rw (pred, la, link-next, link-alike .virgin, planned-stops (link b c q) sh k (m - length (latest b sh q m)) 0 (stops-none (m - length (latest b sh q m)) 0 refl))
+        ∙ rw (pred, la, link-next, link-body .virgin, planned-stops (link b c q) sh k (m - length (latest b sh q m)) 0 (stops-none (m - length (latest b sh q m)) 0 refl))
         (both (length (latest b sh q m)) (eqb (get b (page virgin q)) 1)))
       where
         both : (j : ℕ) (v : Bool) → thenPlanned v j plannedNone ≡ record { count = j; virgin = v }

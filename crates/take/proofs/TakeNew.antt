@@ -1,29 +1,29 @@
 -- A new run on the words: a page of the class that gives blocks.
-use Prim.Native.Nat.{ℕ, zero, suc, _+_, _≤_, _<_, min}
+use Prim.Native.Nat.{ℕ, suc, _+_, _-_, _≤_, _<_, min}
 use native.Mathlib.Omega.{arith}
 use mathlib.Core.Bool.{Bool, true, false, cond, not, _&&_, _||_}
 use mathlib.Core.List.{List, [], _++_}
 use mathlib.Core.Path.{_≡_, refl, ap, _∙_}
 use lib.Dec.{eqb, ltb, leb}
 use lib.ListN.{length}
-use borrow.Author.Tests.{lt-ltb, le-leb, eq-eqb, ne-eqb}
+use borrow.Author.Tests.{lt-ltb, le-leb, ne-eqb}
 use Rattle.facts.specs.Lists.{every}
 use Rattle.facts.proofs.Bools.{by-cases}
 use Rattle.classes.specs.declared.Shape.{Shape}
 use Rattle.classes.specs.way.Sound.{Sound}
-use Rattle.fields.specs.Field.{Field, arena, page, slot, frontier, owner, first, free, carved, listed, virgin, region, off, get, put, words}
+use Rattle.fields.specs.Field.{Field, arena, page, slot, frontier, owner, free, carved, listed, virgin, region, off, get, put, words}
 use Rattle.fields.proofs.Laws.{get-put-same, get-put-other, length-put}
 use Rattle.fields.proofs.Changes.{Changes}
-use Rattle.facts.specs.Lists as Lists
 use Rattle.model.specs.Page.{isMedium}
 use Rattle.words.specs.Host.{digit}
-use Rattle.pages.specs.Runs.{ofRun, whole}
+use Rattle.pages.specs.Runs.{whole}
 use Rattle.pages.specs.Stack.{topEntries, descending, push, hasMore}
 use Rattle.pages.specs.Carve.{stocked, carveAnew, bareRun, newRun}
 use Rattle.pages.proofs.Descending.{length-descending, descending-below, every-append, every-below}
 use Rattle.pages.proofs.TopEntries.{top-entries-cut, top-entries-fewer, top-entries-kept}
 use Rattle.pages.proofs.Pushes.{length-push, top-entries-push}
 use Rattle.pages.proofs.Frames.{changes-new, changes-carve}
+use Rattle.pages.proofs.Runs.{whole-of}
 use Rattle.pages.proofs.NewRun.{new-names, bare-long, bare-listed}
 use Rattle.take.proofs.TakePages.{Valid}
 
@@ -104,21 +104,13 @@ module _ (n : ℕ) (b : List ℕ) (hb : leb (words n) (length b) ≡ true) (c : 
   carved-only : Changes isCarved bare (carveAnew bare sh q true)
   carved-only = changes-carve isCarved bare q refl refl (λ i. refl) sh true refl (sd .few)
 
-  new-first : (i : ℕ) → i < sh .pages → get (newRun b sh q) (page first (q + i)) ≡ q
-  new-first i l = new-names b sh (sd .few) q n hb ends (q + i) (omega arith) (omega arith)
-
-  new-owner : (i : ℕ) → i < sh .pages → get (newRun b sh q) (page owner (q + i)) ≡ suc c
-  new-owner i l = new-changes .kept (page owner (q + i)) refl refl ∙ owners i l
-
-  all-run : (j : ℕ) → j ≤ sh .pages → every (ofRun (newRun b sh q) c q) (Lists.below j) ≡ true
-  all-run zero l = refl
-  all-run (suc j) l = rw (new-owner j (omega arith), new-first j (omega arith), eq-eqb (suc c) (suc c) refl, eq-eqb q q refl) (all-run j (omega arith))
+  new-owner : (x : ℕ) → q ≤ x → x < q + sh .pages → get (newRun b sh q) (page owner x) ≡ suc c
+  new-owner x l u = let z : q + (x - q) ≡ x = omega arith in new-changes .kept (page owner x) refl refl ∙ rw z at (owners (x - q) (omega arith))
 
   new-whole : whole n (newRun b sh q) sh c q ≡ true
-  unfolding whole
   new-whole =
-      rw (le-leb (q + sh .pages) n ends, new-changes .kept (arena frontier) refl refl, le-leb (q + sh .pages) (get b (arena frontier)) under)
-      (all-run (sh .pages) (omega arith))
+      whole-of n (newRun b sh q) sh c q
+      (record { inside = ends; below = rw (new-changes .kept (arena frontier) refl refl) under; owner = new-owner; first = new-names b sh (sd .few) q n hb ends })
 
   new-listed : get (newRun b sh q) (page listed q) ≡ 0
   new-listed = rw new-is (carved-only .kept (page listed q) refl refl ∙ bare-listed b sh (sd .few) q n hb hq)

@@ -1,22 +1,21 @@
 -- A page that a take's plan found sound: what the test says, and that other books with the same words of the page pass it too.
 --     Valid         what `sound` tests, by name
---     Alike         two books agree on the owners and first pages, the frontier, and a page's counts, flag and stack
---     sound-alike   the test passes on both, or on neither
-use Prim.Native.Nat.{ℕ, zero, suc, _+_, _-_, _≤_, _<_, min}
+--     valid-kept    it passes on a book that agrees on whose the pages are and on the page's blocks
+use Prim.Native.Nat.{ℕ, _+_, _-_, _≤_, _<_, min}
 use native.Mathlib.Omega.{arith}
 use mathlib.Core.Bool.{true, not, _||_}
 use mathlib.Core.List.{List}
-use mathlib.Core.Path.{_≡_, refl, _∙_}
+use mathlib.Core.Path.{_≡_, _∙_}
 use lib.Dec.{eqb, ltb, leb}
 use lib.ListN.{length}
-use borrow.Author.Tests.{lt-ltb, ltb-true, le-leb, leb-true, eq-eqb, eqb-true, eqb-false}
-use Rattle.facts.specs.Lists.{every, below}
+use borrow.Author.Tests.{ltb-true, le-leb, leb-true, eq-eqb, eqb-true, eqb-false}
+use Rattle.facts.specs.Lists.{every}
 use Rattle.facts.proofs.Bools.{by-cases, and-left, and-right}
 use Rattle.classes.specs.declared.Shape.{Shape}
-use Rattle.fields.specs.Field.{arena, page, slot, frontier, owner, first, free, carved, listed, virgin, get}
-use Rattle.pages.specs.Runs.{ofRun, whole}
+use Rattle.fields.specs.Field.{page, free, carved, listed, virgin, get}
+use Rattle.pages.specs.Runs.{whole}
 use Rattle.pages.specs.Stack.{topEntries, latest, hasMore}
-use Rattle.pages.proofs.TopEntries.{top-entries-kept}
+use Rattle.pages.proofs.Kept.{Owns, Body, whole-kept, entries-kept, more-kept}
 use Rattle.pages.proofs.Draws.{latest-length}
 use Rattle.pages.specs.Valid.{headerValid}
 use Rattle.pages.proofs.ValidLaws.{carved-low, room-left, virgin-low, header-passes}
@@ -55,56 +54,20 @@ valid-sound n b c sh l m q f =
     let h = header-passes b sh 0 q (leb-true (get b (page carved q)) (sh .capacity) (f .within)) (omega arith) (leb-true (get b (page virgin q)) 1 (f .clean)) in
     rw (f .run, h, f .listing, f .more) (f .entries)
 
--- ---- a run
-pub whole-below : (n : ℕ) (b : List ℕ) (c : ℕ) (sh : Shape) (q : ℕ) → whole n b sh c q ≡ true → q + sh .pages ≤ n
-unfolding whole
-whole-below n b c sh q e = leb-true (q + sh .pages) n (and-left _ _ e)
-
--- ---- two books
-pub record Alike (b b′ : List ℕ) (q : ℕ) : Type 0 where
-  pub frontier : get b′ (arena frontier) ≡ get b (arena frontier)
-  pub owners : (x : ℕ) → get b′ (page owner x) ≡ get b (page owner x)
-  pub firsts : (x : ℕ) → get b′ (page first x) ≡ get b (page first x)
-  pub free : get b′ (page free q) ≡ get b (page free q)
-  pub carved : get b′ (page carved q) ≡ get b (page carved q)
-  pub virgin : get b′ (page virgin q) ≡ get b (page virgin q)
-  pub slots : (i : ℕ) → ltb i 4096 ≡ true → get b′ (slot q i) ≡ get b (slot q i)
-
-module _ (b b′ : List ℕ) (q : ℕ) (h : Alike b b′ q) where
-  run-alike : (c k : ℕ) → every (ofRun b′ c q) (below k) ≡ every (ofRun b c q) (below k)
-  run-alike c zero = refl
-  run-alike c (suc k) = rw (h .owners (q + k), h .firsts (q + k), run-alike c k)
-
-  pub whole-alike : (n c : ℕ) (sh : Shape) → whole n b′ sh c q ≡ whole n b sh c q
-  unfolding whole
-  whole-alike n c sh = rw (h .frontier, run-alike c (sh .pages))
-
-  pub top-entries-alike : (m t : ℕ) → t ≤ 4096 → topEntries b′ q m t ≡ topEntries b q m t
-  top-entries-alike m t l = top-entries-kept b b′ q m t (λ i h. h′ i (lt-ltb i 4096 (omega arith)))
-    where
-      h′ : (i : ℕ) → ltb i 4096 ≡ true → get b′ (slot q i) ≡ get b (slot q i)
-      h′ = h .slots
-
-  pub more-alike : (sh : Shape) → hasMore b′ sh q ≡ hasMore b sh q
-  unfolding hasMore
-  more-alike sh = rw (h .free, h .carved)
-
-  pub latest-alike : (sh : Shape) (m : ℕ) → get b (page free q) ≤ 4096 → latest b′ sh q m ≡ latest b sh q m
-  unfolding latest
-  latest-alike sh m l = rw (h .free, h .carved, top-entries-alike m (get b (page free q)) l)
-
-  pub valid-alike : (n c : ℕ) (sh : Shape) (l l′ m : ℕ) → sh .capacity ≤ 4096 → get b′ (page listed q) ≡ l′ → Valid n b c sh l m q → Valid n b′ c sh l′ m q
-  valid-alike n c sh l l′ m few e f =
-      let t : get b (page free q) ≤ 4096 = omega (arith, leb-true) in
-      record {
-        run = whole-alike n c sh ∙ f .run;
-        listing = eq-eqb (get b′ (page listed q)) l′ e;
-        stack = rw (h .free, h .carved) (f .stack);
-        within = rw (h .carved) (f .within);
-        clean = rw (h .virgin) (f .clean);
-        more = more-alike sh ∙ f .more;
-        entries = rw (h .free, h .carved, top-entries-alike m (get b (page free q)) t) (f .entries);
-      }
+-- ---- other books
+pub valid-kept : {b b′ : List ℕ} {q : ℕ} → Owns b b′ → Body q b b′ → (n c : ℕ) (sh : Shape) (l l′ m : ℕ) → sh .capacity ≤ 4096 → get b′ (page listed q) ≡ l′
+    → Valid n b c sh l m q → Valid n b′ c sh l′ m q
+valid-kept {b} {b′} {q} o h n c sh l l′ m few e f =
+    let t : get b (page free q) ≤ 4096 = omega (arith, leb-true, f .stack, f .within) in
+    record {
+      run = whole-kept o n sh c q ∙ f .run;
+      listing = eq-eqb (get b′ (page listed q)) l′ e;
+      stack = rw (h .free, h .carved) (f .stack);
+      within = rw (h .carved) (f .within);
+      clean = rw (h .virgin) (f .clean);
+      more = more-kept h sh ∙ f .more;
+      entries = rw (h .free, h .carved, entries-kept h m (get b (page free q)) t) (f .entries);
+    }
 
 -- ---- how many blocks a page gives
 pub positive : (x : ℕ) → (x ≡ 0 → ⊥) → 1 ≤ x

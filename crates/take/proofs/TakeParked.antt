@@ -9,7 +9,7 @@ use lib.ListN.{length}
 use borrow.Author.Tests.{lt-ltb, le-leb, leb-true, ne-eqb, eqb-true, eqb-false, not-true, not-false}
 use Rattle.facts.proofs.Bools.{and-left, and-right}
 use Rattle.classes.specs.declared.Shape.{Shape}
-use Rattle.fields.specs.Field.{Field, arena, class, page, slot, frontier, partial, owner, first, next, free, carved, listed, virgin, region, get, words, Has}
+use Rattle.fields.specs.Field.{Field, arena, class, page, frontier, partial, next, free, carved, listed, virgin, region, get, words, Has}
 use Rattle.fields.proofs.Laws.{get-put-other}
 use Rattle.fields.proofs.Changes.{Changes}
 use Rattle.pages.specs.Stack.{latest}
@@ -17,12 +17,14 @@ use Rattle.pages.specs.Links.{top, stored, popStore}
 use Rattle.pages.specs.declared.Park.{Park}
 use Rattle.pages.specs.declared.Park.the-variants.{Empty, Cold}
 use Rattle.pages.specs.way.Pre.{UnparkRunPre}
+use Rattle.pages.proofs.Runs.{whole-says}
+use Rattle.pages.proofs.Kept.{Owns, Body, changes-owns, changes-body, latest-kept}
 use Rattle.pages.proofs.Frames.{changes-pop-store}
 use Rattle.pages.specs.Valid.{storeValid}
 use Rattle.calls.specs.Take.{sound, parkValid}
 use Rattle.take.specs.declared.take_plan.Plan.the-variants.{Refused, Fill}
 use Rattle.take.specs.way.TakePlan.{TakePre, SupplyPre, walksFrom, fills, Foretold, ParkedPre, unparked}
-use Rattle.take.proofs.TakePages.{Valid, sound-valid, whole-below, Alike, valid-alike, latest-alike}
+use Rattle.take.proofs.TakePages.{Valid, sound-valid, valid-kept}
 use Rattle.take.proofs.TakeAlone.{link-changes, alone-walks, alone-planned}
 use Rattle.take.proofs.Fill.{foreseen, fill-planned}
 
@@ -65,18 +67,11 @@ module _ (b : List ℕ) (c : ℕ) (hc : ltb c 76 ≡ true) (q : ℕ) where
   pop-store-partial Empty = simp get-put-other
   pop-store-partial Cold = simp get-put-other
 
-  pop-store-alike : (k : Park) → Alike b (popStore b c k q) q
-  pop-store-alike k =
-      let h = pop-store-changes k in
-      record {
-        frontier = h .kept (arena frontier) refl refl;
-        owners = λ x. h .kept (page owner x) refl refl;
-        firsts = λ x. h .kept (page first x) refl refl;
-        free = h .kept (page free q) refl refl;
-        carved = h .kept (page carved q) refl refl;
-        virgin = h .kept (page virgin q) refl refl;
-        slots = λ i o. h .kept (slot q i) o refl;
-      }
+  pop-store-owns : (k : Park) → Owns b (popStore b c k q)
+  pop-store-owns k = changes-owns (pop-store-changes k) (λ x. refl) (λ x. refl) refl
+
+  pop-store-body : (k : Park) → Body q b (popStore b c k q)
+  pop-store-body k = changes-body (pop-store-changes k) q refl refl refl (λ i. refl) (λ i. refl) (λ j. refl)
 
 module _ (n : ℕ) (b : List ℕ) (c : ℕ) (sh : Shape) (k : Park) (a : ParkedPre n b c sh k) (p : parkValid n b c sh k ≡ true) where
   abbrev newest : ℕ
@@ -105,7 +100,7 @@ module _ (n : ℕ) (b : List ℕ) (c : ℕ) (sh : Shape) (k : Park) (a : ParkedP
   below-top = leb-true (get b (class (top k) c)) (get b (arena frontier)) (and-left _ _ (and-left (storeValid b c k) _ p))
 
   there : newest < n
-  there = omega (arith, whole-below n b c sh newest (parked-valid .run), a .pre .shape .paged)
+  there = omega (arith, whole-says n b sh c newest (parked-valid .run) .inside, a .pre .shape .paged)
 
   pub parked-there : words (newest + 1) ≤ length b
   parked-there = omega (arith, there, a .pre .long)
@@ -132,14 +127,14 @@ module _ (n : ℕ) (b : List ℕ) (c : ℕ) (sh : Shape) (k : Park) (a : ParkedP
 
   left-valid : Valid n left c sh 0 (sh .batch) newest
   left-valid =
-      valid-alike b left newest (pop-store-alike b c hc newest k) n c sh 0 0 (sh .batch) (a .pre .shape .few)
+      valid-kept (pop-store-owns b c hc newest k) (pop-store-body b c hc newest k) n c sh 0 0 (sh .batch) (a .pre .shape .few)
       (pop-store-changes b c hc newest k .kept (page listed newest) refl refl ∙ eqb-true _ _ (parked-valid .listing)) parked-valid
 
   left-alone : get left (class partial c) ≡ 0
   left-alone = pop-store-partial b c hc newest k ∙ a .alone
 
   left-below : suc newest ≤ get left (arena frontier)
-  left-below = rw (pop-store-alike b c hc newest k .frontier) (omega (arith, below-top, a .some))
+  left-below = rw (pop-store-owns b c hc newest k .bound) (omega (arith, below-top, a .some))
 
   wants : sh .batch ≡ 0 → ⊥
   wants z = omega (arith, a .pre .shape .gives)
@@ -162,13 +157,13 @@ module _ (n : ℕ) (b : List ℕ) (c : ℕ) (sh : Shape) (k : Park) (a : ParkedP
   pub unparked-planned : foreseen (fills (unparked b c k) c sh) ≡ record { count = length (latest b sh newest (sh .batch)); virgin = eqb (get b (page virgin newest)) 1 }
   unparked-planned =
       let w = unparked-pre in
-      let al = pop-store-alike b c hc newest k in
+      let al = pop-store-body b c hc newest k in
       let f = parked-valid in
       let x = leb-true (get b (page free newest)) (get b (page carved newest)) (f .stack) in
       let y = leb-true (get b (page carved newest)) (sh .capacity) (f .within) in
       fill-planned n c hc sh (a .pre .shape) (sh .batch) (sh .batch) (unparked b c k) (le-leb (words n) (length (unparked b c k)) (w .long)) (w .bound) unparked-walks
       ∙ alone-planned n left left-long c hc newest (lt-ltb newest n there) left-alone sh (a .pre .shape .few) 0 (sh .batch) left-valid wants left-below (sh .batch) (a .pre .shape .gives)
-      ∙ rw (latest-alike b left newest al sh (sh .batch) (omega (arith, a .pre .shape .few)), al .virgin)
+      ∙ rw (latest-kept al sh (sh .batch) (omega (arith, a .pre .shape .few)), al .virgin)
 
 -- ---- the plan
 module _ (n : ℕ) (b : List ℕ) (c : ℕ) (sh : Shape) (k : Park) where

@@ -15,11 +15,12 @@ use lib.ListN.{length}
 use borrow.Author.Tests.{leb-true, eq-eqb, ne-eqb, eqb-true}
 use Rattle.facts.proofs.Bools.{by-cases, and-left, and-right}
 use Rattle.classes.specs.declared.Shape.{Shape}
-use Rattle.fields.specs.Field.{Field, arena, mark, class, hole, page, out, slot, frontier, owner, first, next, prev, free, carved, listed, virgin, classOff, pageOff, get}
+use Rattle.fields.specs.Field.{Field, arena, mark, class, hole, page, out, slot, frontier, next, prev, listed, virgin, classOff, pageOff, get}
 use Rattle.fields.proofs.Changes.{Changes}
 use Rattle.pages.specs.Stack.{latest}
 use Rattle.calls.specs.Take.{sound, walk}
-use Rattle.take.proofs.TakePages.{Valid, sound-valid, valid-sound, Alike, valid-alike, latest-alike}
+use Rattle.pages.proofs.Kept.{Owns, Body, changes-owns, changes-body, latest-kept}
+use Rattle.take.proofs.TakePages.{Valid, sound-valid, valid-sound, valid-kept}
 
 -- ---- what a walk finds
 pub record Planned : Type 0 where
@@ -111,18 +112,11 @@ isTurned c q x (out p i) = eqb p q
 isTurned c q x (slot p i) = false
 
 module _ (n : ℕ) (b b′ : List ℕ) (c : ℕ) (sh : Shape) (few : sh .capacity ≤ 4096) (p x : ℕ) (ch : Changes (isTurned c p x) b b′) (head : get b (page prev p) ≡ 0) where
-  other-alike : (z : ℕ) → (z ≡ p → ⊥) → Alike b b′ z
-  other-alike z d =
-      let zp = ne-eqb z p d in
-      record {
-        frontier = ch .kept (arena frontier) refl refl;
-        owners = λ y. ch .kept (page owner y) refl refl;
-        firsts = λ y. ch .kept (page first y) refl refl;
-        free = ch .kept (page free z) refl (rw zp);
-        carved = ch .kept (page carved z) refl (rw zp);
-        virgin = ch .kept (page virgin z) refl refl;
-        slots = λ i o. ch .kept (slot z i) o refl;
-      }
+  owns : Owns b b′
+  owns = changes-owns ch (λ y. refl) (λ y. refl) refl
+
+  other-body : (z : ℕ) → (z ≡ p → ⊥) → Body z b b′
+  other-body z d = let zp = ne-eqb z p d in changes-body ch z (rw zp) (rw zp) refl (λ i. refl) (λ i. zp) (λ j. refl)
 
   other-next : (z : ℕ) → (z ≡ p → ⊥) → get b′ (page next z) ≡ get b (page next z)
   other-next z d = ch .kept (page next z) refl (rw (ne-eqb z p d))
@@ -147,13 +141,13 @@ module _ (n : ℕ) (b b′ : List ℕ) (c : ℕ) (sh : Shape) (few : sh .capacit
       → Kept k (m - length (latest b sh (code - 1) m)) (get b (page next (code - 1))) code → Kept (suc k) m code y′
   go-kept k m code y y′ e d s py r =
       let q = code - 1 in
-      let a = other-alike (code - 1) d in
-      let la : latest b′ sh (code - 1) m ≡ latest b sh (code - 1) m = latest-alike b b′ (code - 1) a sh m (omega (arith, leb-true, s .valid .stack, s .valid .within)) in
+      let a = other-body (code - 1) d in
+      let la : latest b′ sh (code - 1) m ≡ latest b sh (code - 1) m = latest-kept a sh m (omega (arith, leb-true, s .valid .stack, s .valid .within)) in
       let nx = other-next (code - 1) d in (
         step-walk n b′ c sh k m code y′ e (record {
-          below = rw (a .frontier) (s .below);
+          below = rw (owns .bound) (s .below);
           before = py;
-          valid = valid-alike b b′ (code - 1) a n c sh 1 1 m few (other-listed (code - 1) d ∙ eqb-true _ _ (s .valid .listing)) (s .valid);
+          valid = valid-kept owns a n c sh 1 1 m few (other-listed (code - 1) d ∙ eqb-true _ _ (s .valid .listing)) (s .valid);
           rest = rw (la, nx) (r .0);
         }),
         planned-goes b′ sh k m code e ∙ rw (la, nx, a .virgin, r .1) (sym (planned-goes b sh k m code e)),
