@@ -1,5 +1,6 @@
 -- A reply's number is 0 exactly if its answer is no refusal; so a call that names a class is refused exactly by number 3 or if the model's
 -- class refuses it.
+--     ask, gives, served           what the class asks of the arena, what it is given, and its answer
 --     next-host                    one that is not refused passed number 3
 --     next-step, next-answer       one that passed it goes to its class, whose answer is the reply's; `next-class`, on the words
 --     next-unrefused, next-zero    and then it is refused exactly if the class refuses it
@@ -7,22 +8,36 @@ use Prim.Native.Nat.{ℕ}
 use native.Mathlib.Omega.{arith}
 use mathlib.Core.Bool.{true, false, cond, false≢true}
 use mathlib.Core.List.{List}
-use mathlib.Core.Option.{some}
+use mathlib.Core.Option.{Option, some}
 use mathlib.Core.Path.{_≡_, sym, ap, _∙_}
 use lib.Dec.{eqb}
 use borrow.Author.Tests.{eqb-true}
 use Rattle.facts.proofs.Bools.{by-cases}
 use Rattle.words.specs.Host.{badHost}
+use Rattle.classes.specs.Shape.{shapeOf}
 use Rattle.rules.specs.Rules.{rulesOf}
 use Rattle.model.specs.Calls as Calls
 use Rattle.model.specs.Calls.{Call, Answer, Named, names, wayOf, hostOf, Request, refused, isRefused}
-use Rattle.model.specs.Heap.{Outcome, classCall, step}
+use Rattle.model.specs.Class.{Ask, serve}
+use Rattle.model.specs.Chunks.{answer}
+use Rattle.model.specs.Heap.{Heap, Outcome, offer, finish, interact, classCall, step}
 use Rattle.model.specs.History.{heapAfter}
 use Rattle.model.proofs.Ways.{host-of}
 use Rattle.refinement.specs.Run.{classReply, callReply}
 use Rattle.demands.specs.Run.{Opens, bookAfter, next}
 use Rattle.demands.proofs.Histories.{next-is, next-agrees}
 
+-- ---- a class's part in a call that names it
+abbrev pub ask : Heap → Named → Ask
+ask H d = answer (shapeOf (d .class)) (H .rules (d .class)) (H .classes (d .class)) (d .request)
+
+abbrev pub gives : ℕ → Heap → Named → Option ℕ
+gives n H d = offer n (hostOf (d .request)) (H .arena) (ask H d) .run
+
+abbrev pub served : ℕ → Heap → Named → Answer
+served n H d = serve (ask H d) (gives n H d) .answer
+
+-- ---- number and answer
 pub zero-of : (k : ℕ) (x : Answer) → isRefused (cond (eqb k 0) x (refused k)) ≡ false → k ≡ 0
 zero-of k x u = by-cases (eqb k 0) (λ z. eqb-true k 0 z) (λ z. absurd (false≢true (sym (rw z at u))))
 
@@ -40,6 +55,9 @@ class-unrefused n b c (Calls.giveBack h ws) e = rw e
 class-unrefused n b c (Calls.giveChunks h ws gs fs) e = rw e
 
 module _ (n : ℕ) (rows b : List ℕ) (o : Opens n rows b) (xs : List Call) (x : Call) (d : Named) (e : names x ≡ some d) where
+  abbrev heap : Heap
+  heap = heapAfter n (rulesOf rows) xs
+
   -- number 3
   pub next-host : next n rows b xs x .code ≡ 0 → badHost (hostOf (d .request)) ≡ false
   unfolding callReply wayOf
@@ -49,23 +67,24 @@ module _ (n : ℕ) (rows b : List ℕ) (o : Opens n rows b) (xs : List Call) (x 
       (λ t. t)
 
   module _ (good : badHost (hostOf (d .request)) ≡ false) where
-    pub next-step : step n (heapAfter n (rulesOf rows) xs) x ≡ classCall n (heapAfter n (rulesOf rows) xs) (d .class) (d .request)
+    pub next-step : step n heap x ≡ classCall n heap (d .class) (d .request)
     unfolding step wayOf
     next-step = rw (host-of x d e, good, e)
 
-    pub next-answer : next n rows b xs x .answer ≡ classCall n (heapAfter n (rulesOf rows) xs) (d .class) (d .request) .answer
+    pub next-answer : next n rows b xs x .answer ≡ served n heap d
+    unfolding classCall interact finish
     next-answer = next-agrees n rows b o xs x .answer ∙ ap (λ (y : Outcome). y .answer) next-step
 
     pub next-class : next n rows b xs x ≡ classReply n (bookAfter n rows b xs) (d .class) (d .request)
     unfolding callReply wayOf
     next-class = rw (next-is n rows b o xs x, host-of x d e, good, e)
 
-    pub next-unrefused : next n rows b xs x .code ≡ 0 → isRefused (classCall n (heapAfter n (rulesOf rows) xs) (d .class) (d .request) .answer) ≡ false
+    pub next-unrefused : next n rows b xs x .code ≡ 0 → isRefused (served n heap d) ≡ false
     next-unrefused z =
         let u : isRefused (next n rows b xs x .answer) ≡ false = rw next-class (class-unrefused n (bookAfter n rows b xs) (d .class) (d .request) (rw next-class at z)) in
-        rw (next-agrees n rows b o xs x .answer, next-step) at u
+        ap isRefused (sym next-answer) ∙ u
 
-    pub next-zero : isRefused (classCall n (heapAfter n (rulesOf rows) xs) (d .class) (d .request) .answer) ≡ false → next n rows b xs x .code ≡ 0
+    pub next-zero : isRefused (served n heap d) ≡ false → next n rows b xs x .code ≡ 0
     next-zero u =
-        let z : isRefused (next n rows b xs x .answer) ≡ false = rw (next-agrees n rows b o xs x .answer, next-step) u in
+        let z : isRefused (next n rows b xs x .answer) ≡ false = ap isRefused next-answer ∙ u in
         rw next-class (class-zero n (bookAfter n rows b xs) (d .class) (d .request) (rw next-class at z))

@@ -44,7 +44,7 @@ use Rattle.refinement.proofs.ChunkWhole.{small-shape}
 use Rattle.refinement.proofs.Found.{Located, located, located-passes}
 use Rattle.refinement.proofs.Chunks.{Adds, settle-adds, settle-skips, every-blocks, once-blocks}
 use Rattle.demands.specs.Parking.{Empties, GroupsGo}
-use Rattle.demands.proofs.ChunkReturns.{chunks-tests, tests-fates}
+use Rattle.demands.proofs.ChunkReturns.{settles}
 use Rattle.demands.proofs.Fates.{Freed, in-fate, beside, emptied-none, none-emptied, out-there}
 
 -- ---- a group's fate, and what it tells of the stores
