@@ -155,7 +155,7 @@ module _ (c : ℕ) (lim : Limits) (s : Class) (h : ℕ) (ws gs fs : List ℕ) (g
         single = once-here (shapeOf c) s ws (p .single) (p .out);
         pages = and-left pages (counts && present) fit;
         counts = and-left counts present (and-right pages (counts && present) fit);
-        answer = ap (λ (q : Ask). serve q g .answer) (chunks-release .blocks (p .plain)) ∙ rw (p .single, p .out, fit);
+        answer = p .answer ∙ rw fit;
       }
 
 -- ---- on the words

@@ -2,7 +2,7 @@
 -- class refuses it.
 --     ask, gives, served           what the class asks of the arena, what it is given, and its answer
 --     next-host                    one that is not refused passed number 3
---     next-step, next-answer       one that passed it goes to its class, whose answer is the reply's; `next-class`, on the words
+--     step-class, next-answer      one that passed it goes to its class, whose answer is the reply's; `next-class`, on the words
 --     next-unrefused, next-zero    and then it is refused exactly if the class refuses it
 use Prim.Native.Nat.{ℕ}
 use native.Mathlib.Omega.{arith}
@@ -54,6 +54,17 @@ class-unrefused n b c (Calls.take h l) e = rw e
 class-unrefused n b c (Calls.giveBack h ws) e = rw e
 class-unrefused n b c (Calls.giveChunks h ws gs fs) e = rw e
 
+-- ---- on a heap
+module _ (n : ℕ) (H : Heap) (x : Call) (d : Named) (e : names x ≡ some d) where
+  pub step-class : badHost (hostOf (d .request)) ≡ false → step n H x ≡ classCall n H (d .class) (d .request)
+  unfolding step wayOf
+  step-class good = rw (host-of x d e, good, e)
+
+  pub step-served : isRefused (step n H x .answer) ≡ false → (badHost (hostOf (d .request)) ≡ false) × (step n H x .answer ≡ served n H d)
+  unfolding step wayOf classCall interact finish
+  step-served u = by-cases (badHost (hostOf (d .request))) (λ t. absurd (false≢true (sym (rw (host-of x d e, t) at u)))) (λ t. (t, rw (host-of x d e, t, e)))
+
+-- ---- on the words
 module _ (n : ℕ) (rows b : List ℕ) (o : Opens n rows b) (xs : List Call) (x : Call) (d : Named) (e : names x ≡ some d) where
   abbrev heap : Heap
   heap = heapAfter n (rulesOf rows) xs
@@ -67,13 +78,9 @@ module _ (n : ℕ) (rows b : List ℕ) (o : Opens n rows b) (xs : List Call) (x 
       (λ t. t)
 
   module _ (good : badHost (hostOf (d .request)) ≡ false) where
-    pub next-step : step n heap x ≡ classCall n heap (d .class) (d .request)
-    unfolding step wayOf
-    next-step = rw (host-of x d e, good, e)
-
     pub next-answer : next n rows b xs x .answer ≡ served n heap d
     unfolding classCall interact finish
-    next-answer = next-agrees n rows b o xs x .answer ∙ ap (λ (y : Outcome). y .answer) next-step
+    next-answer = next-agrees n rows b o xs x .answer ∙ ap (λ (y : Outcome). y .answer) (step-class n heap x d e good)
 
     pub next-class : next n rows b xs x ≡ classReply n (bookAfter n rows b xs) (d .class) (d .request)
     unfolding callReply wayOf

@@ -39,6 +39,7 @@ use Rattle.model.proofs.Sites.{Once, GoodClass, SiteLaw, SiteLaws, Tells, outFr
 use Rattle.model.proofs.Accounts.{held-le}
 use Rattle.model.proofs.HeapLaws.{kept}
 use Rattle.model.proofs.Apart.{which}
+use Rattle.model.proofs.Offers.{good, once}
 use Rattle.model.proofs.Theorems.{outs, conserved}
 use Rattle.pages.specs.Stack.{pageAt}
 use Rattle.demands.specs.Returns.{BlockOf}
@@ -113,16 +114,15 @@ module _ (n : ℕ) (small : n ≤ maxPages) (rules : Rules) (xs : List Call) whe
 
   pub reached-class : (c : ℕ) → ReachedClass c (heap .classes c)
   reached-class c =
-      let k = kept n rules xs .inv in
       let sh = shapeOf c in
       let paged = shape-sound c .paged in
       record {
-        good = k .good c;
-        once = λ x. omega (arith, k .mine c x, held-le c (heap .holder x), k .one x);
+        good = good n rules xs c;
+        once = once n rules xs c;
         low = λ x law.
             let y = x .page .first + sh .pages - 1 in
             let z = covers-in (sh .pages) (x .page .first) y (omega (arith, paged)) (omega (arith, paged)) in
-            omega (arith, paged, held-low c y (omega (arith, z, law .pages-rest y, k .mine c y)));
+            omega (arith, paged, held-low c y (omega (arith, z, law .pages-rest y, kept n rules xs .inv .mine c y)));
       }
 
   pub byte-held : (e : Entry) → Live 0 (events n rules xs) e → (b : ℕ) → HasByte e b → 1 ≤ heldBy (e .class) (heap .holder (b / pageBytes))

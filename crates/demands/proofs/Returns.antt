@@ -84,18 +84,21 @@ pub passed : (s : Class) (k : ℕ) (b : Bool) (q : Ask) (g : Option ℕ) → isR
 passed s k true q g u = absurd (false≢true (sym u))
 passed s k false q g u = (refl, u)
 
-pub record Passes (sh : Shape) (s : Class) (ws : List ℕ) (A : Type 0) (rest : Ask) (g : Option ℕ) : Type 0 where
+pub record Passes (sh : Shape) (s : Class) (ws : List ℕ) (A : Type 0) (q rest : Ask) (g : Option ℕ) : Type 0 where
   pub plain : A
   pub single : repeats sh s ws ≡ false
   pub out : every (outHere sh s) ws ≡ true
+  pub answer : serve q g .answer ≡ serve rest g .answer
   pub unrefused : isRefused (serve rest g .answer) ≡ false
 
-pub passes : {sh : Shape} {s : Class} {h : ℕ} {ws : List ℕ} {A : Type 0} {q rest : Ask} {g : Option ℕ} → Release sh s h ws A q rest g → badHost h ≡ false → isRefused (serve q g .answer) ≡ false → Passes sh s ws A rest g
-passes {sh} {s} {ws = ws} {g = g} r t u =
+pub passes : {sh : Shape} {s : Class} {h : ℕ} {ws : List ℕ} {A : Type 0} {q rest : Ask} {g : Option ℕ} → Release sh s h ws A q rest g → badHost h ≡ false → isRefused (serve q g .answer) ≡ false → Passes sh s ws A q rest g
+passes {sh} {s} {ws = ws} {rest = rest} {g = g} r t u =
     let a = r .before t u in
-    let p15 = passed s 15 (repeats sh s ws) _ g (ap (λ (q : Ask). isRefused (serve q g .answer)) (sym (r .blocks a)) ∙ u) in
-    let p10 = passed s 10 (not (every (outHere sh s) ws)) _ g (p15 .1) in
-    record { plain = a; single = p15 .0; out = not-false (every (outHere sh s) ws) (p10 .0); unrefused = p10 .1 }
+    let e = ap (λ (q : Ask). serve q g .answer) (r .blocks a) in
+    let p15 = passed s 15 (repeats sh s ws) _ g (ap isRefused (sym e) ∙ u) in
+    let p10 = passed s 10 (not (every (outHere sh s) ws)) rest g (p15 .1) in
+    let out = not-false (every (outHere sh s) ws) (p10 .0) in
+    record { plain = a; single = p15 .0; out = out; answer = e ∙ rw (p15 .0, out); unrefused = p10 .1 }
 
 -- the last test asks B: the answer a is no refusal, or it is number 11
 abbrev pub Decides : Type 0 → Answer → Type 0
