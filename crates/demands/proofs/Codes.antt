@@ -1,15 +1,16 @@
 -- A reply's number is 0 exactly if its answer is no refusal; so a call that names a class is refused exactly by number 3 or if the model's
 -- class refuses it.
---     ask, gives, served           what the class asks of the arena, what it is given, and its answer
---     next-host                    one that is not refused passed number 3
---     step-class, next-answer      one that passed it goes to its class, whose answer is the reply's; `next-class`, on the words
---     next-unrefused, next-zero    and then it is refused exactly if the class refuses it
+--     ask, gives, served         what the class asks of the arena, what it is given, and its answer
+--     next-host                  one that is not refused passed number 3
+--     step-class, next-answer    one that passed it goes to its class, whose answer is the reply's; `next-class`, on the words
+--     next-exactly               and then it is refused exactly if the class refuses it
 use Prim.Native.Nat.{ℕ}
 use native.Mathlib.Omega.{arith}
-use mathlib.Core.Bool.{true, false, cond, false≢true}
+use mathlib.Core.Bool.{false, cond, false≢true}
 use mathlib.Core.List.{List}
+use mathlib.Core.Logic.{_↔_}
 use mathlib.Core.Option.{Option, some}
-use mathlib.Core.Path.{_≡_, sym, ap, _∙_}
+use mathlib.Core.Path.{_≡_, refl, sym, ap, _∙_}
 use lib.Dec.{eqb}
 use borrow.Author.Tests.{eqb-true}
 use Rattle.facts.proofs.Bools.{by-cases}
@@ -38,21 +39,13 @@ abbrev pub served : ℕ → Heap → Named → Answer
 served n H d = serve (ask H d) (gives n H d) .answer
 
 -- ---- number and answer
-pub zero-of : (k : ℕ) (x : Answer) → isRefused (cond (eqb k 0) x (refused k)) ≡ false → k ≡ 0
-zero-of k x u = by-cases (eqb k 0) (λ z. eqb-true k 0 z) (λ z. absurd (false≢true (sym (rw z at u))))
+pub zero-exactly : (k : ℕ) (x : Answer) → isRefused x ≡ false → (k ≡ 0) ↔ (isRefused (cond (eqb k 0) x (refused k)) ≡ false)
+zero-exactly k x u = (λ e. rw e u, λ y. by-cases (eqb k 0) (λ z. eqb-true k 0 z) (λ z. absurd (false≢true (sym (rw z at y)))))
 
-pub unrefused-of : (k : ℕ) (x : Answer) → isRefused x ≡ false → k ≡ 0 → isRefused (cond (eqb k 0) x (refused k)) ≡ false
-unrefused-of k x u e = rw e u
-
-class-zero : (n : ℕ) (b : List ℕ) (c : ℕ) (r : Request) → isRefused (classReply n b c r .answer) ≡ false → classReply n b c r .code ≡ 0
-class-zero n b c (Calls.take h l) u = zero-of _ _ u
-class-zero n b c (Calls.giveBack h ws) u = zero-of _ _ u
-class-zero n b c (Calls.giveChunks h ws gs fs) u = zero-of _ _ u
-
-class-unrefused : (n : ℕ) (b : List ℕ) (c : ℕ) (r : Request) → classReply n b c r .code ≡ 0 → isRefused (classReply n b c r .answer) ≡ false
-class-unrefused n b c (Calls.take h l) e = rw e
-class-unrefused n b c (Calls.giveBack h ws) e = rw e
-class-unrefused n b c (Calls.giveChunks h ws gs fs) e = rw e
+class-exactly : (n : ℕ) (b : List ℕ) (c : ℕ) (r : Request) → (classReply n b c r .code ≡ 0) ↔ (isRefused (classReply n b c r .answer) ≡ false)
+class-exactly n b c (Calls.take h l) = zero-exactly _ _ refl
+class-exactly n b c (Calls.giveBack h ws) = zero-exactly _ _ refl
+class-exactly n b c (Calls.giveChunks h ws gs fs) = zero-exactly _ _ refl
 
 -- ---- on a heap
 module _ (n : ℕ) (H : Heap) (x : Call) (d : Named) (e : names x ≡ some d) where
@@ -86,12 +79,5 @@ module _ (n : ℕ) (rows b : List ℕ) (o : Opens n rows b) (xs : List Call) (x 
     unfolding callReply wayOf
     next-class = rw (next-is n rows b o xs x, host-of x d e, good, e)
 
-    pub next-unrefused : next n rows b xs x .code ≡ 0 → isRefused (served n heap d) ≡ false
-    next-unrefused z =
-        let u : isRefused (next n rows b xs x .answer) ≡ false = rw next-class (class-unrefused n (bookAfter n rows b xs) (d .class) (d .request) (rw next-class at z)) in
-        ap isRefused (sym next-answer) ∙ u
-
-    pub next-zero : isRefused (served n heap d) ≡ false → next n rows b xs x .code ≡ 0
-    next-zero u =
-        let z : isRefused (next n rows b xs x .answer) ≡ false = ap isRefused next-answer ∙ u in
-        rw next-class (class-zero n (bookAfter n rows b xs) (d .class) (d .request) (rw next-class at z))
+    pub next-exactly : (next n rows b xs x .code ≡ 0) ↔ (isRefused (served n heap d) ≡ false)
+    next-exactly = rw (← next-answer, next-class) (class-exactly n (bookAfter n rows b xs) (d .class) (d .request))

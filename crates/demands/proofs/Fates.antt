@@ -7,12 +7,10 @@ use mathlib.Core.Bool.{Bool, true, false, cond, true≢false}
 use mathlib.Core.List.{List, [], _∷_, _++_}
 use mathlib.Core.Option.{Option, none, some}
 use mathlib.Core.Path.{_≡_, refl, sym, ap, _∙_}
-use lib.Dec.{eqb}
 use lib.ListN.{length}
 use borrow.Author.Tests.{eq-eqb}
-use Rattle.facts.specs.Lists.{isNil, every, elem, distinct, count}
-use Rattle.facts.proofs.Bools.{by-cases, or-right}
-use Rattle.words.specs.Host.{badHost}
+use Rattle.facts.specs.Lists.{every, elem, distinct, count}
+use Rattle.facts.proofs.Bools.{by-cases}
 use Rattle.classes.specs.declared.Shape.{Shape}
 use Rattle.classes.specs.Shape.{shapeOf}
 use Rattle.classes.specs.way.Sound.{Sound}
@@ -22,17 +20,17 @@ use Rattle.rules.specs.Rules.{Rules}
 use Rattle.model.specs.declared.Destination.{Destination}
 use Rattle.model.specs.declared.Destination.the-variants.{ToEmpty, ToCold, ToArena}
 use Rattle.model.specs.Calls as Calls
-use Rattle.model.specs.Calls.{Call, Answer, fate, isRefused, names, hostIn, wayOf}
+use Rattle.model.specs.Calls.{Call, Answer, fate, isRefused, names}
 use Rattle.model.specs.Page.{Page, isOut, noneOut, returned, carvedWords}
 use Rattle.model.specs.Class.{Class, serve}
 use Rattle.model.specs.Destination.{destinationOf, fateOf, keptFate}
-use Rattle.model.specs.Release.{Site, inPartial, inFull, locate, parkIn, park, destinationIn, settle, onPage, siteOfFirst, ofKind, outHere, repeats, releaseList}
-use Rattle.model.specs.Chunks.{startsAt, answer}
-use Rattle.model.specs.Heap.{Heap, step, classCall, interact, finish, offer}
+use Rattle.model.specs.Release.{Site, inPartial, inFull, locate, parkIn, park, destinationIn, settle, onPage, siteOfFirst}
+use Rattle.model.specs.Chunks.{startsAt}
+use Rattle.model.specs.Heap.{Heap, step}
 use Rattle.model.specs.History.{Event, events, heapAfter}
 use Rattle.model.specs.Entries.{OutIn}
 use Rattle.model.specs.Offered.{blocksAt, HasRun}
-use Rattle.model.proofs.Counts.{count-append, elem-count, count-in, every-count, each-once, distinct-count}
+use Rattle.model.proofs.Counts.{count-append, elem-count, count-in, every-count, distinct-count}
 use Rattle.model.proofs.Pages.{outOf, beginsOn, is-out, return-moves, none-out-of}
 use Rattle.model.proofs.Sites.{outs, outCount, Once, GoodClass, SiteLaw, SiteLaws, locate-law}
 use Rattle.model.proofs.Weights.{weigh}

@@ -25,7 +25,7 @@ use Rattle.model.specs.Page.{Page}
 use Rattle.model.specs.Arena as Arenas
 use Rattle.model.specs.Arena.{Arena}
 use Rattle.model.specs.Class as Classes
-use Rattle.model.specs.Class.{Class, Cold, Result, Ask, done, asks, serve, refuse, onRun, takeFrom}
+use Rattle.model.specs.Class.{Class, Cold, Result, Ask, done, asks, serve, onRun, takeFrom}
 use Rattle.model.specs.Release.{Site, onPage, releaseList}
 use Rattle.model.specs.Chunks.{releaseChunks, answer}
 use Rattle.model.specs.Heap.{Heap, badRun, runWith, asked, offer, finish, interact, classCall, commitCall, directCall, step}
@@ -41,7 +41,7 @@ use Rattle.demands.specs.Run.{Opens, run, bookAfter, next, recounted, re
 use Rattle.demands.specs.Demands.{CommitFits, RunFits, unasked, nothing, given, Asks}
 use Rattle.demands.proofs.Histories.{run-represents, next-agrees}
 use Rattle.demands.proofs.Observed.{recounted-is}
-use Rattle.demands.proofs.Codes.{ask, gives, step-class, next-host, next-answer, next-unrefused, next-zero}
+use Rattle.demands.proofs.Codes.{ask, gives, step-class, next-host, next-answer, next-exactly}
 
 -- ---- a request stays with its class, or goes to the arena for m pages; A says that it should
 pub data Reaches (m : ℕ) (A : Type 0) : Ask → Type 0 where
@@ -83,25 +83,21 @@ module _ (sh : Shape) (lim : Limits) where
   ask-unrefused l fs none = refl
   ask-unrefused l fs (some q) = refl
 
-  module _ (vs : List Event) (c : ℕ) (s : Class) (spent : Spent vs c ↔ NoneListed s) (code : ℕ) (g : Option ℕ) where
-    -- the number is 0 exactly if the class, given g, does not refuse
-    record Codes (r : Request) : Type 0 where
-      unrefused : code ≡ 0 → isRefused (serve (answer sh lim s r) g .answer) ≡ false
-      zero : isRefused (serve (answer sh lim s r) g .answer) ≡ false → code ≡ 0
+  -- the number is 0 exactly if the class, given g, does not refuse
+  module _ {vs : List Event} {c : ℕ} {s : Class} (spent : Spent vs c ↔ NoneListed s) (code : ℕ) (g : Option ℕ) where
+    abbrev Exactly : Request → Type 0
+    Exactly r = (code ≡ 0) ↔ (isRefused (serve (answer sh lim s r) g .answer) ≡ false)
 
-    refused-home : (k : ℕ) (r : Request) → (code ≡ 0 → isRefused (serve (refuse s k) g .answer) ≡ false) → Reaches (sh .pages) (Asks vs c r code) (refuse s k)
-    refused-home k r z = home (λ a. false≢true (sym (z (a .unrefused))))
-
-    take-home : (h : ℕ) (l : List ℕ) → (code ≡ 0 → isRefused (serve (answer sh lim s (Calls.take h l)) g .answer) ≡ false)
-        → (isRefused (serve (answer sh lim s (Calls.take h l)) g .answer) ≡ false → code ≡ 0) → Reaches (sh .pages) (Asks vs c (Calls.take h l) code) (answer sh lim s (Calls.take h l))
+    take-home : (h : ℕ) (l : List ℕ) → Exactly (Calls.take h l) → Reaches (sh .pages) (Asks vs c (Calls.take h l) code) (answer sh lim s (Calls.take h l))
     unfolding answer
-    take-home h l z y =
-        by-cases (ltb (length l) (sh .batch)) (λ u. rw u (refused-home 5 (Calls.take h l) (rw u at z)))
+    take-home h l z =
+        by-cases (ltb (length l) (sh .batch))
+        (λ u. rw u (home (λ a. false≢true (sym (rw u at (z .0 (a .unrefused)))))))
         (λ u. rw u (take-reaches (Asks vs c (Calls.take h l) code) l (s .partial) (s .empty) (s .cold) (s .full) (λ a. let n = spent .0 (a .spent) in (n .partial, n .empty, n .cold))
-        (λ p q r. record { take = refl; unrefused = (rw (u, p, q, r) at y) (ask-unrefused l (s .full) g); spent = spent .1 (record { partial = p; empty = q; cold = r }) })))
+        (λ p q r. record { take = refl; unrefused = (rw (u, p, q, r) at (z .1)) (ask-unrefused l (s .full) g); spent = spent .1 (record { partial = p; empty = q; cold = r }) })))
 
-    reaches : (r : Request) → Codes r → Reaches (sh .pages) (Asks vs c r code) (answer sh lim s r)
-    reaches (Calls.take h l) z = take-home h l (z .unrefused) (z .zero)
+    reaches : (r : Request) → Exactly r → Reaches (sh .pages) (Asks vs c r code) (answer sh lim s r)
+    reaches (Calls.take h l) z = take-home h l z
     reaches (Calls.giveBack h ws) z = list-home sh lim (sh .pages) _ (λ a. false≢true (a .take)) s h ws
     reaches (Calls.giveChunks h ws gs fs) z = chunks-home sh lim (sh .pages) _ (λ a. false≢true (a .take)) s h ws gs fs
 
@@ -168,9 +164,7 @@ module _ (n : ℕ) (rows b : List ℕ) (o : Opens n rows b) (xs : List Call) whe
 
     module _ (host : badHost (hostOf (d .request)) ≡ false) where
       reached : Reaches (shapeOf (d .class) .pages) Asked (ask heap d)
-      reached =
-          reaches (shapeOf (d .class)) (heap .rules (d .class)) vs (d .class) (heap .classes (d .class)) spent (next n rows b xs x .code) (gives n heap d) (d .request)
-          (record { unrefused = next-unrefused n rows b o xs x d e host; zero = next-zero n rows b o xs x d e host })
+      reached = reaches (shapeOf (d .class)) (heap .rules (d .class)) spent (next n rows b xs x .code) (gives n heap d) (d .request) (next-exactly n rows b o xs x d e host)
 
       class-fits : RunFits n (hostOf (d .request)) (shapeOf (d .class) .pages) (loadArena (bookAfter n rows b xs)) Asked (classCall n heap (d .class) (d .request) .run)
       unfolding classCall interact finish
@@ -202,7 +196,7 @@ module _ (n : ℕ) (rows b : List ℕ) (o : Opens n rows b) (xs : List Call) whe
         let t = next-host n rows b o xs x taking e z in
         rw (loads, next-answer n rows b o xs x taking e t)
         (nothing-left (offer-yields n h (shapeOf c .pages) (heap .arena) (best-fit n (rulesOf rows) xs .commits h (shapeOf c .pages)) (reached x taking e t) (yielding n (rulesOf rows) xs .takes c h l)
-        (next-unrefused n rows b o xs x taking e t z)))
+        (next-exactly n rows b o xs x taking e t .0 z)))
 
     -- the history with the take at its end is the model's
     with-take : recountedWith n (rulesOf rows) (bookAfter n rows b xs) xs (run n rows b xs) x ≡ withCall n (rulesOf rows) xs x
@@ -215,7 +209,7 @@ module _ (n : ℕ) (rows b : List ℕ) (o : Opens n rows b) (xs : List Call) whe
       unfolding classCall interact finish
       unrefused =
           let t = next-host n rows b o xs x taking e z in
-          rw (step-class n heap x taking e t) (next-unrefused n rows b o xs x taking e t z)
+          rw (step-class n heap x taking e t) (next-exactly n rows b o xs x taking e t .0 z)
 
       agrees : next n rows b xs x .answer ≡ step n heap x .answer
       agrees = next-agrees n rows b o xs x .answer

@@ -35,7 +35,7 @@ use Rattle.demands.specs.Call.{call}
 use Rattle.demands.specs.Run.{Opens, bookAfter, next}
 use Rattle.demands.specs.Demands.{GivenTo, GivenInTurn, all-given, first-given}
 use Rattle.demands.proofs.Histories.{run-represents, next-agrees}
-use Rattle.demands.proofs.Codes.{ask, step-class, unrefused-of, next-host}
+use Rattle.demands.proofs.Codes.{ask, step-class, zero-exactly, next-host}
 
 give-given : (m q : ℕ) → 1 ≤ m → (a : Arena) → GivenTo m q a (give m q a)
 unfolding give
@@ -106,7 +106,7 @@ module _ (n : ℕ) (rows b : List ℕ) (o : Opens n rows b) (xs : List Call) whe
   unfolding call
   run-given h q m e =
       let z = next-agrees n rows b o xs (Calls.release h q m) in
-      let s = step-release n heap h q m (rw (z .answer) at (unrefused-of (releaseOn (bookAfter n rows b xs) h q m .code) Calls.released refl e)) in
+      let s = step-release n heap h q m (rw (z .answer) at (zero-exactly (releaseOn (bookAfter n rows b xs) h q m .code) Calls.released refl .0 e)) in
       rw (z .heap .arena .loads ∙ s .1, loads) (give-given m q (s .0) (heap .arena))
 
   pub commit-given : (h m q : ℕ) → next n rows b xs (Calls.commit h m) .code ≡ 0 → usable h (loadArena (bookAfter n rows b xs) .status) ≡ true → commitGranted h ≡ false
@@ -117,7 +117,7 @@ module _ (n : ℕ) (rows b : List ℕ) (o : Opens n rows b) (xs : List Call) whe
       let a = heap .arena in
       let w = commitOn (bookAfter n rows b xs) h m in
       let z = next-agrees n rows b o xs (Calls.commit h m) in
-      let s = step-commit n heap h m (rw (z .answer) at (unrefused-of (w .code) (answerRun (w .run) (w .fresh)) (run-answered (w .run) (w .fresh)) e)) in
+      let s = step-commit n heap h m (rw (z .answer) at (zero-exactly (w .code) (answerRun (w .run) (w .fresh)) (run-answered (w .run) (w .fresh)) .0 e)) in
       rw (z .heap .arena .loads ∙ s .1 ∙ commit-gives n h m q a c (rw loads at u) (rw loads at d), loads) (give-given m q (s .0) (draw n m (withStatus ready a) .arena))
 
   pub growth-given : (h q old new : ℕ) → next n rows b xs (Calls.growFrontier h q old new) .code ≡ 0
@@ -128,7 +128,7 @@ module _ (n : ℕ) (rows b : List ℕ) (o : Opens n rows b) (xs : List Call) whe
       let a = heap .arena in
       let w = growOn (bookAfter n rows b xs) h q old new in
       let z = next-agrees n rows b o xs (Calls.growFrontier h q old new) in
-      let s = step-growth n heap h q old new (rw (z .answer) at (unrefused-of (w .code) (Calls.grown (w .yes)) refl e)) in
+      let s = step-growth n heap h q old new (rw (z .answer) at (zero-exactly (w .code) (Calls.grown (w .yes)) refl .0 e)) in
       rw (z .heap .arena .loads ∙ s .1 ∙ growth-gives n h (new - old) (q + old) a c (rw loads at f) k, loads) (give-given (new - old) (q + old) (s .0) (withFrontier (q + old + (new - old)) a))
 
   pub class-given : (x : Call) (d : Named) → names x ≡ some d → next n rows b xs x .code ≡ 0

@@ -26,7 +26,7 @@ use Rattle.demands.specs.Start as Starts
 use Rattle.demands.specs.Start.{Start, pages, ruleRows, lent}
 use Rattle.demands.specs.Demands.{GivenInTurn}
 use Rattle.demands.specs.Groups.{GroupsGive}
-use Rattle.demands.proofs.Codes.{ask, zero-of, next-host, next-answer}
+use Rattle.demands.proofs.Codes.{ask, zero-exactly, next-host, next-answer}
 use Rattle.demands.proofs.Fits.{Reaches, home, away, chunks-home}
 use Rattle.demands.proofs.Gives.{class-given}
 use Rattle.demands.proofs.Starts.{as-opening}
@@ -61,7 +61,7 @@ module _ (n : ℕ) (rows b : List ℕ) (o : Opens n rows b) (xs : List Call) (c 
 
   unrefused : next n rows b xs x .answer ≡ Calls.fates vs → next n rows b xs x .code ≡ 0
   unfolding call
-  unrefused e = zero-of (chunksOn (bookAfter n rows b xs) c h ws gs fs .code) _ (ap isRefused e)
+  unrefused e = zero-exactly (chunksOn (bookAfter n rows b xs) c h ws gs fs .code) _ refl .1 (ap isRefused e)
 
   chunks-give : next n rows b xs x .answer ≡ Calls.fates vs → GivenInTurn (shapeOf c .pages) (wentBack gs vs) (loadArena (bookAfter n rows b xs)) (loadArena (next n rows b xs x .book))
   chunks-give e =

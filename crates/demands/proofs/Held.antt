@@ -30,7 +30,7 @@ use Rattle.demands.specs.Call.{call}
 use Rattle.demands.specs.Run.{Opens, bookAfter, next, observed}
 use Rattle.demands.specs.Demands.{Grows, grew, elsewhere, exhausted, ungranted, GrowFits}
 use Rattle.demands.proofs.Histories.{run-represents, next-agrees}
-use Rattle.demands.proofs.Codes.{zero-of, unrefused-of}
+use Rattle.demands.proofs.Codes.{zero-exactly}
 use Rattle.demands.proofs.Observed.{observed-direct}
 
 pub grow-fits : (n h e m : ℕ) (a : Arena) → Grows n h e m a (grow n h e m a .grew)
@@ -104,8 +104,7 @@ module _ (n : ℕ) (rows b : List ℕ) (o : Opens n rows b) (xs : List Call) whe
     released-by : HeldLaw (Calls.release h q m) q m Calls.released
     unfolding call
     released-by =
-        let k = releaseOn (bookAfter n rows b xs) h q m .code in
-        held-law (Calls.release h q m) q m Calls.released good refl (unrefused-of k Calls.released refl, zero-of k Calls.released) (step-released n heap h q low m good)
+        held-law (Calls.release h q m) q m Calls.released good refl (zero-exactly (releaseOn (bookAfter n rows b xs) h q m .code) Calls.released refl) (step-released n heap h q low m good)
 
     pub held-releases : (next n rows b xs (Calls.release h q m) .code ≡ 0) ↔ ((k : ℕ) → k < m → directAfter (observed n rows b xs) (q + k) ≡ true)
     held-releases = released-by .returns
@@ -118,7 +117,7 @@ module _ (n : ℕ) (rows b : List ℕ) (o : Opens n rows b) (xs : List Call) whe
     unfolding call
     grown-by =
         let w = growOn (bookAfter n rows b xs) h q old new in
-        held-law (Calls.growFrontier h q old new) q old _ good refl (unrefused-of (w .code) (Calls.grown (w .yes)) refl, zero-of (w .code) (Calls.grown (w .yes))) (step-grown n heap h q low old new good good′ more)
+        held-law (Calls.growFrontier h q old new) q old _ good refl (zero-exactly (w .code) (Calls.grown (w .yes)) refl) (step-grown n heap h q low old new good good′ more)
 
     pub held-grows : (next n rows b xs (Calls.growFrontier h q old new) .code ≡ 0) ↔ ((k : ℕ) → k < old → directAfter (observed n rows b xs) (q + k) ≡ true)
     held-grows = grown-by .returns

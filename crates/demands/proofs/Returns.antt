@@ -43,7 +43,7 @@ use Rattle.demands.specs.Run.{Opens, next, observed}
 use Rattle.demands.specs.Returns.{Twice, BlockOf, OneRun, ListOut}
 use Rattle.demands.proofs.Calls.{room}
 use Rattle.demands.proofs.Observed.{observed-out, out-observed}
-use Rattle.demands.proofs.Codes.{ask, gives, next-host, next-answer, next-unrefused, next-zero}
+use Rattle.demands.proofs.Codes.{ask, gives, next-host, next-answer, next-exactly}
 use Rattle.demands.proofs.Sizes.{one-first}
 use Rattle.demands.proofs.Places.{ReachedClass, reached-class, out-block, lies, lies-on, same-page}
 
@@ -213,11 +213,11 @@ module _ (n : ℕ) (rows b : List ℕ) (o : Opens n rows b) (xs : List Call) whe
       record {
         returns = (
           λ z. let host = next-host n rows b o xs x d e z in
-              let t = passes r host (next-unrefused n rows b o xs x d e host z) in
+              let t = passes r host (next-exactly n rows b o xs x d e host .0 z) in
               (t .plain, all-out c ws (t .out) (t .single), elim (last (t .plain) (t .out)) [ inl y ↦ y .0 | inr y ↦ absurd (false≢true (sym (t .unrefused) ∙ ap isRefused (y .1))) ]),
           λ p. let t = out-all c ws (p .1) in
               let u : isRefused (serve rest g .answer) ≡ false = elim (last (p .0) (t .0)) [ inl y ↦ y .1 | inr y ↦ absurd (y .0 (p .2)) ] in
-              next-zero n rows b o xs x d e (r .host (p .0)) (ap (λ (q : Ask). isRefused (serve q g .answer)) (r .blocks (p .0)) ∙ rw (t .1, t .0) u),
+              next-exactly n rows b o xs x d e (r .host (p .0)) .1 (ap (λ (q : Ask). isRefused (serve q g .answer)) (r .blocks (p .0)) ∙ rw (t .1, t .0) u),
         );
         repeated = λ a p. answered a ∙ rw (twice-again c ws p);
         notOut = λ a p q.

@@ -57,7 +57,7 @@ use Rattle.demands.specs.Run.{Opens, bookAfter, next}
 use Rattle.demands.proofs.Calls.{room}
 use Rattle.demands.proofs.Histories.{next-is, next-agrees, run-represents, book-split}
 use Rattle.demands.proofs.Observed.{out-observed}
-use Rattle.demands.proofs.Codes.{next-class, next-zero}
+use Rattle.demands.proofs.Codes.{next-class, next-exactly}
 use Rattle.demands.proofs.Places.{byte-held}
 use Rattle.demands.proofs.Returns.{list-returns, word-returns}
 use Rattle.demands.proofs.TraceLive.{live, own-byte}
@@ -152,7 +152,7 @@ module _ (n : ℕ) (b : List ℕ) (o : Opens n [] b) (xs : List Call) where
   take-step c h =
       let t = takeNow n book c in
       let i = take-is c h in
-      let f : next n [] b xs (takeOf c) .code ≡ 0 = next-zero n [] b o xs (takeOf c) (taking c) (names-take c h) refl (class-taken (heap .rules c) c (heap .classes c) _) in
+      let f : next n [] b xs (takeOf c) .code ≡ 0 = next-exactly n [] b o xs (takeOf c) (taking c) (names-take c h) refl .1 (class-taken (heap .rules c) c (heap .classes c) _) in
       let z : t .code ≡ 0 = ap (λ (r : Reply). r .code) (sym i) ∙ f in
       let a : takeReply t .answer ≡ step n heap (takeOf c) .answer = ap (λ (r : Reply). r .answer) (sym i) ∙ next-agrees n [] b o xs (takeOf c) .answer in
       let g = took-blocks t z in
