@@ -1,6 +1,6 @@
 -- A group release is refused exactly as the history and the lists' words tell.
 --     groups-are       number 11's test of the groups on a class's pages is that of the words
---     settles          one that is not refused passed each test and answers the fates
+--     chunks-passed    one that is not refused passed each test and answers the fates
 --     chunks-return    it is not refused exactly if its lists are `ChunksOut`
 use Prim.Native.Nat.{ℕ, _<_}
 use native.Mathlib.Omega.{arith}
@@ -36,7 +36,7 @@ use Rattle.refinement.proofs.OutTests.{once-here}
 use Rattle.demands.specs.Run.{Opens, next, observed}
 use Rattle.demands.specs.Returns.{Twice, Plain, ChunksOut, countFits, groupsFit}
 use Rattle.demands.proofs.Places.{page-of, ReachedClass, Lies, lies, lies-on, same-page}
-use Rattle.demands.proofs.Returns.{elem-first, elem-later, elem-every, Release, passed, passes, Decides, ReleaseLaw, release-law, reached}
+use Rattle.demands.proofs.Returns.{elem-first, elem-later, elem-every, Release, passed, passed-blocks, LastTest, ReleaseLaw, release-law, class-after}
 
 -- ---- lists
 every-is : (t u : ℕ → Bool) (ws : List ℕ) → ((w : ℕ) → elem w ws ≡ true → t w ≡ u w) → every t ws ≡ every u ws
@@ -51,7 +51,7 @@ pub filter-none : (t : ℕ → Bool) (ws : List ℕ) → ((w : ℕ) → elem w w
 filter-none t [] f = refl
 filter-none t (w ∷ ws) f = rw (f w (elem-first w ws), filter-none t ws (λ v m. f v (elem-later w v ws m)))
 
--- ---- number 11 on a class whose runs are single pages, and a list of blocks out in it
+-- ---- number 11, on a class whose runs are single pages and a list of blocks that are out in it
 abbrev chunksFit : Shape → Class → List ℕ → List ℕ → Bool
 chunksFit sh s ws gs = distinct (map pageOf gs) && (every (chunkFits sh s ws) gs && every (chunked sh s gs) ws)
 
@@ -132,20 +132,20 @@ module _ (c : ℕ) (lim : Limits) (s : Class) (h : ℕ) (ws gs fs : List ℕ) (g
     blocks = λ a. rw (a .listed, a .grouped, le-ltb chunksMax (length gs) (a .few), le-ltb (length fs) (length gs) (a .room), a .kinds, a .groupKinds);
   }
 
-  decides : (t : Bool) → chunksFit (shapeOf c) s ws gs ≡ t → Decides (t ≡ true) (serve rest g .answer)
-  decides true e = inl (refl, rw e)
-  decides false e = inr (false≢true, rw e)
+  groups-fit : (t : Bool) → chunksFit (shapeOf c) s ws gs ≡ t → LastTest (t ≡ true) (serve rest g .answer)
+  groups-fit true e = inl (refl, rw e)
+  groups-fit false e = inr (false≢true, rw e)
 
   -- one that is not refused: its tests and its answer
-  pub record Settles : Type 0 where
+  pub record ChunksPassed : Type 0 where
     pub single : distinct ws ≡ true
     pub pages : distinct (map pageOf gs) ≡ true
     pub counts : every (chunkFits (shapeOf c) s ws) gs ≡ true
     pub answer : serve (answer (shapeOf c) lim s (Calls.giveChunks h ws gs fs)) g .answer ≡ serve settled g .answer
 
-  pub settles : badHost h ≡ false → isRefused (serve (answer (shapeOf c) lim s (Calls.giveChunks h ws gs fs)) g .answer) ≡ false → Settles
-  settles t u =
-      let p = passes chunks-release t u in
+  pub chunks-passed : badHost h ≡ false → isRefused (serve (answer (shapeOf c) lim s (Calls.giveChunks h ws gs fs)) g .answer) ≡ false → ChunksPassed
+  chunks-passed t u =
+      let p = passed-blocks chunks-release t u in
       let p11 = passed s 11 (not (chunksFit (shapeOf c) s ws gs)) _ g (p .unrefused) in
       let fit = not-false (chunksFit (shapeOf c) s ws gs) (p11 .0) in
       let pages = distinct (map pageOf gs) in
@@ -176,7 +176,7 @@ module _ (n : ℕ) (rows b : List ℕ) (o : Opens n rows b) (xs : List Call) (c 
       let d : Named = record { class = c; request = Calls.giveChunks h ws gs fs } in
       let named : names x ≡ some d = rw (lt-ltb c 64 small) in
       release-law n rows b o xs x named (chunks-release c (H .rules c) (H .classes c) h ws gs fs _)
-      (λ a out. decides c (H .rules c) (H .classes c) h ws gs fs _ (groupsFit ws gs) (groups-are (reached n rows b o xs c) (small-paged c small) ws out gs))
+      (λ a out. groups-fit c (H .rules c) (H .classes c) h ws gs fs _ (groupsFit ws gs) (groups-are (class-after n rows b o xs c) (small-paged c small) ws out gs))
 
   pub chunks-return : (next n rows b xs x .code ≡ 0) ↔ ChunksOut vs c h ws gs fs
   chunks-return =

@@ -1,9 +1,9 @@
 -- A reply's number is 0 exactly if its answer is no refusal; so a call that names a class is refused exactly by number 3 or if the model's
 -- class refuses it.
---     ask, gives, served         what the class asks of the arena, what it is given, and its answer
---     next-host                  one that is not refused passed number 3
---     step-class, next-answer    one that passed it goes to its class, whose answer is the reply's; `next-class`, on the words
---     next-exactly               and then it is refused exactly if the class refuses it
+--     classAsk, classRun, classAnswer    what the class asks of the arena, the run that it is given, and its answer
+--     next-host                          one that is not refused passed number 3
+--     step-class, next-answer            one that passed it goes to its class, whose answer is the reply's; `next-class`, on the words
+--     next-exactly                       and then it is refused exactly if the class refuses it
 use Prim.Native.Nat.{ℕ}
 use native.Mathlib.Omega.{arith}
 use mathlib.Core.Bool.{false, cond, false≢true}
@@ -29,14 +29,14 @@ use Rattle.demands.specs.Run.{Opens, bookAfter, next}
 use Rattle.demands.proofs.Histories.{next-is, next-agrees}
 
 -- ---- a class's part in a call that names it
-abbrev pub ask : Heap → Named → Ask
-ask H d = answer (shapeOf (d .class)) (H .rules (d .class)) (H .classes (d .class)) (d .request)
+abbrev pub classAsk : Heap → Named → Ask
+classAsk H d = answer (shapeOf (d .class)) (H .rules (d .class)) (H .classes (d .class)) (d .request)
 
-abbrev pub gives : ℕ → Heap → Named → Option ℕ
-gives n H d = offer n (hostOf (d .request)) (H .arena) (ask H d) .run
+abbrev pub classRun : ℕ → Heap → Named → Option ℕ
+classRun n H d = offer n (hostOf (d .request)) (H .arena) (classAsk H d) .run
 
-abbrev pub served : ℕ → Heap → Named → Answer
-served n H d = serve (ask H d) (gives n H d) .answer
+abbrev pub classAnswer : ℕ → Heap → Named → Answer
+classAnswer n H d = serve (classAsk H d) (classRun n H d) .answer
 
 -- ---- number and answer
 pub zero-exactly : (k : ℕ) (x : Answer) → isRefused x ≡ false → (k ≡ 0) ↔ (isRefused (cond (eqb k 0) x (refused k)) ≡ false)
@@ -53,7 +53,7 @@ module _ (n : ℕ) (H : Heap) (x : Call) (d : Named) (e : names x ≡ some d) wh
   unfolding step wayOf
   step-class good = rw (host-of x d e, good, e)
 
-  pub step-served : isRefused (step n H x .answer) ≡ false → (badHost (hostOf (d .request)) ≡ false) × (step n H x .answer ≡ served n H d)
+  pub step-served : isRefused (step n H x .answer) ≡ false → (badHost (hostOf (d .request)) ≡ false) × (step n H x .answer ≡ classAnswer n H d)
   unfolding step wayOf classCall interact finish
   step-served u = by-cases (badHost (hostOf (d .request))) (λ t. absurd (false≢true (sym (rw (host-of x d e, t) at u)))) (λ t. (t, rw (host-of x d e, t, e)))
 
@@ -71,7 +71,7 @@ module _ (n : ℕ) (rows b : List ℕ) (o : Opens n rows b) (xs : List Call) (x 
       (λ t. t)
 
   module _ (good : badHost (hostOf (d .request)) ≡ false) where
-    pub next-answer : next n rows b xs x .answer ≡ served n heap d
+    pub next-answer : next n rows b xs x .answer ≡ classAnswer n heap d
     unfolding classCall interact finish
     next-answer = next-agrees n rows b o xs x .answer ∙ ap (λ (y : Outcome). y .answer) (step-class n heap x d e good)
 
@@ -79,5 +79,5 @@ module _ (n : ℕ) (rows b : List ℕ) (o : Opens n rows b) (xs : List Call) (x 
     unfolding callReply wayOf
     next-class = rw (next-is n rows b o xs x, host-of x d e, good, e)
 
-    pub next-exactly : (next n rows b xs x .code ≡ 0) ↔ (isRefused (served n heap d) ≡ false)
+    pub next-exactly : (next n rows b xs x .code ≡ 0) ↔ (isRefused (classAnswer n heap d) ≡ false)
     next-exactly = rw (← next-answer, next-class) (class-exactly n (bookAfter n rows b xs) (d .class) (d .request))

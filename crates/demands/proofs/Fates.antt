@@ -1,6 +1,6 @@
 -- Where an emptied run goes, by the fate that a release by list answers (document 02, A.9).
 --     emptied-none     the list has every block of the run that is out exactly if none is out afterwards
---     fate-by-row      the answer
+--     by-row           the answer
 use Prim.Native.Nat.{ℕ, _+_, _≤_}
 use native.Mathlib.Omega.{arith}
 use mathlib.Core.Bool.{Bool, true, false, cond, true≢false}
@@ -40,7 +40,7 @@ use Rattle.refinement.proofs.Found.{Located, inList, inNone, located}
 use Rattle.refinement.proofs.OutTests.{once-here}
 use Rattle.demands.specs.Parking.{Empties}
 use Rattle.demands.proofs.Codes.{step-served}
-use Rattle.demands.proofs.Returns.{every-elem, elem-every, passes, list-release}
+use Rattle.demands.proofs.Returns.{every-elem, elem-every, passed-blocks, list-release}
 
 -- the stores are as they were while a page with blocks out is away
 pub beside : {t : Page → Bool} {s : Class} {x : Site} → Located t s (some x) → (length (x .without .empty) ≡ length (s .empty)) × (length (x .without .cold) ≡ length (s .cold))
@@ -84,7 +84,7 @@ pub freed-by : (size : ℕ) (H : Heap) (x : Call) (c h : ℕ) (ws : List ℕ) �
 freed-by size H x c h ws e good u =
     let s = H .classes c in
     let t = step-served size H x _ e u in
-    let p = passes (list-release (shapeOf c) (H .rules c) s h ws _) (t .0) (ap isRefused (sym (t .1)) ∙ u) in
+    let p = passed-blocks (list-release (shapeOf c) (H .rules c) s h ws _) (t .0) (ap isRefused (sym (t .1)) ∙ u) in
     rw (t .1 ∙ p .answer) (first-freed (shapeOf c) (H .rules c) h _ s good ws (once-here (shapeOf c) s ws (p .single) (p .out)) (p .unrefused))
 
 -- ---- the page afterwards

@@ -41,7 +41,7 @@ use Rattle.demands.specs.Run.{Opens, run, bookAfter, next, recounted, re
 use Rattle.demands.specs.Demands.{CommitFits, RunFits, unasked, nothing, given, Asks}
 use Rattle.demands.proofs.Histories.{run-represents, next-agrees}
 use Rattle.demands.proofs.Observed.{recounted-is}
-use Rattle.demands.proofs.Codes.{ask, gives, step-class, next-host, next-answer, next-exactly}
+use Rattle.demands.proofs.Codes.{classAsk, classRun, step-class, next-host, next-answer, next-exactly}
 
 -- ---- a request stays with its class, or goes to the arena for m pages; A says that it should
 pub data Reaches (m : ℕ) (A : Type 0) : Ask → Type 0 where
@@ -163,8 +163,8 @@ module _ (n : ℕ) (rows b : List ℕ) (o : Opens n rows b) (xs : List Call) whe
     spent = rw (recounted-is n rows b o xs) (offered n (rulesOf rows) xs .spent (d .class))
 
     module _ (host : badHost (hostOf (d .request)) ≡ false) where
-      reached : Reaches (shapeOf (d .class) .pages) Asked (ask heap d)
-      reached = reaches (shapeOf (d .class)) (heap .rules (d .class)) spent (next n rows b xs x .code) (gives n heap d) (d .request) (next-exactly n rows b o xs x d e host)
+      reached : Reaches (shapeOf (d .class) .pages) Asked (classAsk heap d)
+      reached = reaches (shapeOf (d .class)) (heap .rules (d .class)) spent (next n rows b xs x .code) (classRun n heap d) (d .request) (next-exactly n rows b o xs x d e host)
 
       class-fits : RunFits n (hostOf (d .request)) (shapeOf (d .class) .pages) (loadArena (bookAfter n rows b xs)) Asked (classCall n heap (d .class) (d .request) .run)
       unfolding classCall interact finish

@@ -35,7 +35,7 @@ use Rattle.demands.specs.Call.{call}
 use Rattle.demands.specs.Run.{Opens, bookAfter, next}
 use Rattle.demands.specs.Demands.{GivenTo, GivenInTurn, all-given, first-given}
 use Rattle.demands.proofs.Histories.{run-represents, next-agrees}
-use Rattle.demands.proofs.Codes.{ask, step-class, zero-exactly, next-host}
+use Rattle.demands.proofs.Codes.{classAsk, step-class, zero-exactly, next-host}
 
 give-given : (m q : ℕ) → 1 ≤ m → (a : Arena) → GivenTo m q a (give m q a)
 unfolding give
@@ -132,11 +132,11 @@ module _ (n : ℕ) (rows b : List ℕ) (o : Opens n rows b) (xs : List Call) whe
       rw (z .heap .arena .loads ∙ s .1 ∙ growth-gives n h (new - old) (q + old) a c (rw loads at f) k, loads) (give-given (new - old) (q + old) (s .0) (withFrontier (q + old + (new - old)) a))
 
   pub class-given : (x : Call) (d : Named) → names x ≡ some d → next n rows b xs x .code ≡ 0
-      → (let q = ask heap d in
+      → (let q = classAsk heap d in
       let g = offer n (hostOf (d .request)) (loadArena (bookAfter n rows b xs)) q in
       GivenInTurn (shapeOf (d .class) .pages) (serve q (g .run) .gives) (g .arena) (loadArena (next n rows b xs x .book)))
   unfolding classCall interact finish
   class-given x d e z =
-      let q = ask heap d in
+      let q = classAsk heap d in
       let g = offer n (hostOf (d .request)) (heap .arena) q in
       rw (next-agrees n rows b o xs x .heap .arena .loads, step-class n heap x d e (next-host n rows b o xs x d e z), loads) (all-in-turn (shapeOf (d .class) .pages) (shape-sound (d .class) .paged) (serve q (g .run) .gives) (g .arena))

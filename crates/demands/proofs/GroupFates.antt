@@ -44,7 +44,7 @@ use Rattle.refinement.proofs.Found.{Located, located, located-passes}
 use Rattle.refinement.proofs.Chunks.{Adds, settle-adds, settle-skips, every-blocks, once-blocks}
 use Rattle.demands.specs.Parking.{Empties, GroupsGo}
 use Rattle.demands.proofs.Codes.{step-served}
-use Rattle.demands.proofs.ChunkReturns.{settles}
+use Rattle.demands.proofs.ChunkReturns.{chunks-passed}
 use Rattle.demands.proofs.Fates.{Freed, in-fate, beside, emptied-none, none-emptied, out-there}
 
 -- ---- a group's fate, and what it tells of the stores
@@ -170,7 +170,7 @@ groups-fated size limits xs c h ws gs fs l u =
     let k = H .classes c in
     let named : names (Calls.releaseBinChunks c h ws gs fs) ≡ some (record { class = c; request = Calls.giveChunks h ws gs fs }) = rw (lt-ltb c 64 l) in
     let e = step-served size H (Calls.releaseBinChunks c h ws gs fs) _ named u in
-    let t = settles c lim k h ws gs fs _ (e .0) (ap isRefused (sym (e .1)) ∙ u) in
+    let t = chunks-passed c lim k h ws gs fs _ (e .0) (ap isRefused (sym (e .1)) ∙ u) in
     let us = settleChunks (shapeOf c) lim h ws k gs .fates in
     let z : fatesIn (length gs) (step size H (Calls.releaseBinChunks c h ws gs fs) .answer) ≡ us
     = ap (fatesIn (length gs)) (e .1 ∙ t .answer) ∙ subst (λ (n : ℕ). take n (us ++ drop (length gs) fs) ≡ us) (chunks-fated (shapeOf c) lim h ws gs k .many) (take-append-seam us (drop (length gs) fs)) in

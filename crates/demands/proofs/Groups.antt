@@ -26,7 +26,7 @@ use Rattle.demands.specs.Start as Starts
 use Rattle.demands.specs.Start.{Start, pages, ruleRows, lent}
 use Rattle.demands.specs.Demands.{GivenInTurn}
 use Rattle.demands.specs.Groups.{GroupsGive}
-use Rattle.demands.proofs.Codes.{ask, zero-exactly, next-host, next-answer}
+use Rattle.demands.proofs.Codes.{classAsk, zero-exactly, next-host, next-answer}
 use Rattle.demands.proofs.Fits.{Reaches, home, away, chunks-home}
 use Rattle.demands.proofs.Gives.{class-given}
 use Rattle.demands.proofs.Starts.{as-opening}
@@ -54,7 +54,7 @@ module _ (n : ℕ) (rows b : List ℕ) (o : Opens n rows b) (xs : List Call) (c 
   d = record { class = c; request = Calls.giveChunks h ws gs fs }
 
   abbrev q : Ask
-  q = ask heap d
+  q = classAsk heap d
 
   named : names x ≡ some d
   named = rw (lt-ltb c 64 l)

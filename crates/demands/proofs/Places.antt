@@ -67,7 +67,7 @@ module _ (sh : Shape) (ok : Sound sh) where
     byte-on : (b : ℕ) → granuleOf w * granuleBytes ≤ b → b < granuleOf w * granuleBytes + sh .block * granuleBytes → covers (sh .pages) q (b / pageBytes) ≡ 1
     byte-on b f t = covers-in (sh .pages) q (b / pageBytes) (omega (arith, placed .0, f)) (omega (arith, placed .1, t))
 
--- ---- a class as a history leaves it: its pages are good, no page of the arena is in two of its runs, and each run ends where a word can tell
+-- ---- a class as a history leaves it: its pages are good, no page of the arena is in two of its runs, and none ends past the longest arena
 pub record ReachedClass (c : ℕ) (s : Class) : Type 0 where
   pub good : GoodClass (shapeOf c) s
   pub once : Once (shapeOf c) s

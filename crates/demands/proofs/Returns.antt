@@ -43,7 +43,7 @@ use Rattle.demands.specs.Run.{Opens, next, observed}
 use Rattle.demands.specs.Returns.{Twice, BlockOf, OneRun, ListOut}
 use Rattle.demands.proofs.Calls.{room}
 use Rattle.demands.proofs.Observed.{observed-out, out-observed}
-use Rattle.demands.proofs.Codes.{ask, gives, next-host, next-answer, next-exactly}
+use Rattle.demands.proofs.Codes.{classAsk, classRun, next-host, next-answer, next-exactly}
 use Rattle.demands.proofs.Sizes.{one-first}
 use Rattle.demands.proofs.Places.{ReachedClass, reached-class, out-block, lies, lies-on, same-page}
 
@@ -84,15 +84,15 @@ pub passed : (s : Class) (k : ℕ) (b : Bool) (q : Ask) (g : Option ℕ) → isR
 passed s k true q g u = absurd (false≢true (sym u))
 passed s k false q g u = (refl, u)
 
-pub record Passes (sh : Shape) (s : Class) (ws : List ℕ) (A : Type 0) (q rest : Ask) (g : Option ℕ) : Type 0 where
+pub record PassedBlocks (sh : Shape) (s : Class) (ws : List ℕ) (A : Type 0) (q rest : Ask) (g : Option ℕ) : Type 0 where
   pub plain : A
   pub single : repeats sh s ws ≡ false
   pub out : every (outHere sh s) ws ≡ true
   pub answer : serve q g .answer ≡ serve rest g .answer
   pub unrefused : isRefused (serve rest g .answer) ≡ false
 
-pub passes : {sh : Shape} {s : Class} {h : ℕ} {ws : List ℕ} {A : Type 0} {q rest : Ask} {g : Option ℕ} → Release sh s h ws A q rest g → badHost h ≡ false → isRefused (serve q g .answer) ≡ false → Passes sh s ws A q rest g
-passes {sh} {s} {ws = ws} {rest = rest} {g = g} r t u =
+pub passed-blocks : {sh : Shape} {s : Class} {h : ℕ} {ws : List ℕ} {A : Type 0} {q rest : Ask} {g : Option ℕ} → Release sh s h ws A q rest g → badHost h ≡ false → isRefused (serve q g .answer) ≡ false → PassedBlocks sh s ws A q rest g
+passed-blocks {sh} {s} {ws = ws} {rest = rest} {g = g} r t u =
     let a = r .before t u in
     let e = ap (λ (q : Ask). serve q g .answer) (r .blocks a) in
     let p15 = passed s 15 (repeats sh s ws) _ g (ap isRefused (sym e) ∙ u) in
@@ -101,15 +101,15 @@ passes {sh} {s} {ws = ws} {rest = rest} {g = g} r t u =
     record { plain = a; single = p15 .0; out = out; answer = e ∙ rw (p15 .0, out); unrefused = p10 .1 }
 
 -- the last test asks B: the answer a is no refusal, or it is number 11
-abbrev pub Decides : Type 0 → Answer → Type 0
-Decides B a = (B × (isRefused a ≡ false)) ⊎ ((B → ⊥) × (a ≡ Calls.refused 11))
+abbrev pub LastTest : Type 0 → Answer → Type 0
+LastTest B a = (B × (isRefused a ≡ false)) ⊎ ((B → ⊥) × (a ≡ Calls.refused 11))
 
 -- ---- a release by list
-abbrev pub Listed : Shape → ℕ → List ℕ → Type 0
-Listed sh h ws = (h ≤ hostMax) × (isNil ws ≡ false) × (every (ofKind (sh .kind)) ws ≡ true)
+abbrev pub PlainList : Shape → ℕ → List ℕ → Type 0
+PlainList sh h ws = (h ≤ hostMax) × (isNil ws ≡ false) × (every (ofKind (sh .kind)) ws ≡ true)
 
 pub list-release : (sh : Shape) (lim : Limits) (s : Class) (h : ℕ) (ws : List ℕ) (g : Option ℕ)
-    → Release sh s h ws (Listed sh h ws) (answer sh lim s (Calls.giveBack h ws)) (onPage sh lim h s ws (siteOfFirst sh s ws)) g
+    → Release sh s h ws (PlainList sh h ws) (answer sh lim s (Calls.giveBack h ws)) (onPage sh lim h s ws (siteOfFirst sh s ws)) g
 unfolding answer releaseList
 list-release sh lim s h ws g = record {
   host = λ a. le-ltb hostMax h (a .0);
@@ -125,23 +125,26 @@ module _ {c : ℕ} {s : Class} (k : ReachedClass c s) (lim : Limits) (h : ℕ) (
   abbrev sh : Shape
   sh = shapeOf c
 
-  page-decides : (w : ℕ) (ws : List ℕ) → every (outHere sh s) (w ∷ ws) ≡ true → (o : Option Site) → SiteLaws sh s o → Tells (isOut sh w) s o → isSome o ≡ true
-      → Decides (OneRun sh (w ∷ ws)) (serve (onPage sh lim h s (w ∷ ws) o) g .answer)
+  page-together : (w : ℕ) (ws : List ℕ) → every (outHere sh s) (w ∷ ws) ≡ true → (o : Option Site) → SiteLaws sh s o → Tells (isOut sh w) s o → isSome o ≡ true
+      → LastTest (OneRun sh (w ∷ ws)) (serve (onPage sh lim h s (w ∷ ws) o) g .answer)
   unfolding onPage
-  page-decides w ws out none l t e = absurd (false≢true e)
-  page-decides w ws out (some x) l t e =
+  page-together w ws out none l t e = absurd (false≢true e)
+  page-together w ws out (some x) l t e =
       let on : ℕ → Bool = λ v. isOut sh v (x .page) in
       let block : (v : ℕ) → on v ≡ true → BlockOf sh (x .page .first) v = λ v u. out-block sh (shape-sound c) (x .page) v (l .page) u in
       by-cases (every on (w ∷ ws))
       (λ u. inl (record { first = x .page .first; blocks = λ v m. block v (elem-every on (w ∷ ws) u v m) }, rw u))
-      (λ u. inr (λ r. false≢true (sym u ∙ every-elem on (w ∷ ws) (λ v m.
-      let y = lies k v (elem-every (outHere sh s) (w ∷ ws) out v m) in
-      same-page k y x l (one-first c _ _ w (block w t) (r .blocks w (elem-first w ws)) ∙ sym (one-first c _ _ v (lies-on y) (r .blocks v m))))), rw u))
+      (λ u. inr (
+        λ r. false≢true (sym u ∙ every-elem on (w ∷ ws) (λ v m.
+            let y = lies k v (elem-every (outHere sh s) (w ∷ ws) out v m) in
+            same-page k y x l (one-first c _ _ w (block w t) (r .blocks w (elem-first w ws)) ∙ sym (one-first c _ _ v (lies-on y) (r .blocks v m))))),
+        rw u,
+      ))
 
-  first-decides : (ws : List ℕ) → isNil ws ≡ false → every (outHere sh s) ws ≡ true → Decides (OneRun sh ws) (serve (onPage sh lim h s ws (siteOfFirst sh s ws)) g .answer)
+  list-together : (ws : List ℕ) → isNil ws ≡ false → every (outHere sh s) ws ≡ true → LastTest (OneRun sh ws) (serve (onPage sh lim h s ws (siteOfFirst sh s ws)) g .answer)
   unfolding outHere
-  first-decides [] e out = absurd (false≢true (sym e))
-  first-decides (w ∷ ws) e out = page-decides w ws out (locate (isOut sh w) s) (locate-law sh s (k .good) (isOut sh w)) (locate-tells (isOut sh w) s) (and-left (isSome (locate (isOut sh w) s)) _ out)
+  list-together [] e out = absurd (false≢true (sym e))
+  list-together (w ∷ ws) e out = page-together w ws out (locate (isOut sh w) s) (locate-law sh s (k .good) (isOut sh w)) (locate-tells (isOut sh w) s) (and-left (isSome (locate (isOut sh w) s)) _ out)
 
 word-kind : (sh : Shape) (ok : Sound sh) (q i : ℕ) → q + sh .pages ≤ maxPages → i < sh .capacity → ofKind (sh .kind) (wordOf sh q i) ≡ true
 unfolding ofKind wordOf
@@ -159,42 +162,42 @@ module _ (n : ℕ) (rows b : List ℕ) (o : Opens n rows b) (xs : List Call) whe
 
   -- the tests of 10 and 15, by the history
   module _ (c : ℕ) where
-    abbrev here : ℕ → Bool
-    here = outHere (shapeOf c) (heap .classes c)
+    abbrev outAfter : ℕ → Bool
+    outAfter = outHere (shapeOf c) (heap .classes c)
 
-    out-here : (w : ℕ) → OutIn vs c w → here w ≡ true
-    out-here w p = outs n (rulesOf rows) xs .out c w .1 (observed-out n rows b o xs c w p)
+    out-after : (w : ℕ) → OutIn vs c w → outAfter w ≡ true
+    out-after w p = outs n (rulesOf rows) xs .out c w .1 (observed-out n rows b o xs c w p)
 
-    here-out : (w : ℕ) → here w ≡ true → OutIn vs c w
-    here-out w e = out-observed n rows b o xs c w (outs n (rulesOf rows) xs .out c w .0 e)
+    after-out : (w : ℕ) → outAfter w ≡ true → OutIn vs c w
+    after-out w e = out-observed n rows b o xs c w (outs n (rulesOf rows) xs .out c w .0 e)
 
     module _ (ws : List ℕ) where
-      abbrev again : Bool
-      again = repeats (shapeOf c) (heap .classes c) ws
+      abbrev repeatsAfter : Bool
+      repeatsAfter = repeats (shapeOf c) (heap .classes c) ws
 
-      all-out : every here ws ≡ true → again ≡ false → AllOut vs c ws
-      all-out e u = record { out = λ w m. here-out w (elem-every here ws e w m); once = once-here (shapeOf c) (heap .classes c) ws u e }
+      all-out : every outAfter ws ≡ true → repeatsAfter ≡ false → AllOut vs c ws
+      all-out e u = record { out = λ w m. after-out w (elem-every outAfter ws e w m); once = once-here (shapeOf c) (heap .classes c) ws u e }
 
-      out-all : AllOut vs c ws → (every here ws ≡ true) × (again ≡ false)
+      out-all : AllOut vs c ws → (every outAfter ws ≡ true) × (repeatsAfter ≡ false)
       unfolding repeats
       out-all p =
-          let e = every-elem here ws (λ w m. out-here w (p .out w m)) in
-          (e, rw (filter-all here ws e, p .once))
+          let e = every-elem outAfter ws (λ w m. out-after w (p .out w m)) in
+          (e, rw (filter-all outAfter ws e, p .once))
 
-      twice-again : Twice vs c ws → again ≡ true
+      twice-repeats : Twice vs c ws → repeatsAfter ≡ true
       unfolding repeats
-      twice-again p =
-          let e = filter-keeps here (p .word) ws (out-here (p .word) (p .out)) in
-          by-cases (distinct (filter here ws)) (λ u. absurd (omega (arith, p .times, e, distinct-count (p .word) (filter here ws) u))) (λ u. rw u)
+      twice-repeats p =
+          let e = filter-keeps outAfter (p .word) ws (out-after (p .word) (p .out)) in
+          by-cases (distinct (filter outAfter ws)) (λ u. absurd (omega (arith, p .times, e, distinct-count (p .word) (filter outAfter ws) u))) (λ u. rw u)
 
-      again-twice : again ≡ true → Twice vs c ws
+      repeats-twice : repeatsAfter ≡ true → Twice vs c ws
       unfolding repeats
-      again-twice e =
-          let r = not-distinct (filter here ws) (not-true (distinct (filter here ws)) e) in
+      repeats-twice e =
+          let r = not-distinct (filter outAfter ws) (not-true (distinct (filter outAfter ws)) e) in
           let w = r .0 in
-          record { word = w; out = here-out w (filter-passes here w ws (omega (arith, r .1))); times = omega (arith, r .1, filter-le here w ws) }
+          record { word = w; out = after-out w (filter-passes outAfter w ws (omega (arith, r .1))); times = omega (arith, r .1, filter-le outAfter w ws) }
 
-  -- both releases are refused exactly as the history, A and B tell
+  -- both releases are refused exactly as the history tells, and A and B
   pub record ReleaseLaw (x : Call) (c : ℕ) (ws : List ℕ) (A B : Type 0) : Type 0 where
     pub returns : (next n rows b xs x .code ≡ 0) ↔ (A × AllOut vs c ws × B)
     pub repeated : A → Twice vs c ws → next n rows b xs x .answer ≡ Calls.refused 15
@@ -202,36 +205,36 @@ module _ (n : ℕ) (rows b : List ℕ) (o : Opens n rows b) (xs : List Call) whe
     pub unfit : A → AllOut vs c ws → (B → ⊥) → next n rows b xs x .answer ≡ Calls.refused 11
 
   pub release-law : {A B : Type 0} {ws : List ℕ} {d : Named} {rest : Ask} (x : Call) → names x ≡ some d
-      → Release (shapeOf (d .class)) (heap .classes (d .class)) (hostOf (d .request)) ws A (ask heap d) rest (gives n heap d)
-      → (A → every (here (d .class)) ws ≡ true → Decides B (serve rest (gives n heap d) .answer)) → ReleaseLaw x (d .class) ws A B
+      → Release (shapeOf (d .class)) (heap .classes (d .class)) (hostOf (d .request)) ws A (classAsk heap d) rest (classRun n heap d)
+      → (A → every (outAfter (d .class)) ws ≡ true → LastTest B (serve rest (classRun n heap d) .answer)) → ReleaseLaw x (d .class) ws A B
   release-law {A} {B} {ws} {d} {rest} x e r last =
       let c = d .class in
       let s = heap .classes c in
-      let g = gives n heap d in
-      let answered : A → next n rows b xs x .answer ≡ serve (cond (again c ws) (refuse s 15) (cond (not (every (here c) ws)) (refuse s 10) rest)) g .answer
+      let g = classRun n heap d in
+      let answered : A → next n rows b xs x .answer ≡ serve (cond (repeatsAfter c ws) (refuse s 15) (cond (not (every (outAfter c) ws)) (refuse s 10) rest)) g .answer
       = λ a. next-answer n rows b o xs x d e (r .host a) ∙ ap (λ (q : Ask). serve q g .answer) (r .blocks a) in
       record {
         returns = (
           λ z. let host = next-host n rows b o xs x d e z in
-              let t = passes r host (next-exactly n rows b o xs x d e host .0 z) in
+              let t = passed-blocks r host (next-exactly n rows b o xs x d e host .0 z) in
               (t .plain, all-out c ws (t .out) (t .single), elim (last (t .plain) (t .out)) [ inl y ↦ y .0 | inr y ↦ absurd (false≢true (sym (t .unrefused) ∙ ap isRefused (y .1))) ]),
           λ p. let t = out-all c ws (p .1) in
               let u : isRefused (serve rest g .answer) ≡ false = elim (last (p .0) (t .0)) [ inl y ↦ y .1 | inr y ↦ absurd (y .0 (p .2)) ] in
               next-exactly n rows b o xs x d e (r .host (p .0)) .1 (ap (λ (q : Ask). isRefused (serve q g .answer)) (r .blocks (p .0)) ∙ rw (t .1, t .0) u),
         );
-        repeated = λ a p. answered a ∙ rw (twice-again c ws p);
+        repeated = λ a p. answered a ∙ rw (twice-repeats c ws p);
         notOut = λ a p q.
-            by-cases (again c ws) (λ t. absurd (p (again-twice c ws t)))
-            (λ t. by-cases (every (here c) ws) (λ u. absurd (q (all-out c ws u t))) (λ u. answered a ∙ rw (t, u)));
+            by-cases (repeatsAfter c ws) (λ t. absurd (p (repeats-twice c ws t)))
+            (λ t. by-cases (every (outAfter c) ws) (λ u. absurd (q (all-out c ws u t))) (λ u. answered a ∙ rw (t, u)));
         unfit = λ a p q. let t = out-all c ws p in answered a ∙ rw (t .1, t .0) (elim (last a (t .0)) [ inl y ↦ absurd (q (y .0)) | inr y ↦ y .1 ]);
       }
 
   -- by list
-  abbrev pub reached : (c : ℕ) → ReachedClass c (heap .classes c)
-  reached = reached-class n (room n rows b o .few-pages) (rulesOf rows) xs
+  abbrev pub class-after : (c : ℕ) → ReachedClass c (heap .classes c)
+  class-after = reached-class n (room n rows b o .few-pages) (rulesOf rows) xs
 
-  list-law : (c : ℕ) (x : Call) (h : ℕ) (ws : List ℕ) → names x ≡ some (record { class = c; request = Calls.giveBack h ws }) → ReleaseLaw x c ws (Listed (shapeOf c) h ws) (OneRun (shapeOf c) ws)
-  list-law c x h ws e = release-law x e (list-release (shapeOf c) (heap .rules c) (heap .classes c) h ws _) (λ a out. first-decides (reached c) (heap .rules c) h _ ws (a .1) out)
+  list-law : (c : ℕ) (x : Call) (h : ℕ) (ws : List ℕ) → names x ≡ some (record { class = c; request = Calls.giveBack h ws }) → ReleaseLaw x c ws (PlainList (shapeOf c) h ws) (OneRun (shapeOf c) ws)
+  list-law c x h ws e = release-law x e (list-release (shapeOf c) (heap .rules c) (heap .classes c) h ws _) (λ a out. list-together (class-after c) (heap .rules c) h _ ws (a .1) out)
 
   pub list-returns : (c : ℕ) (x : Call) (h : ℕ) (ws : List ℕ) → names x ≡ some (record { class = c; request = Calls.giveBack h ws }) → (next n rows b xs x .code ≡ 0) ↔ ListOut vs c h ws
   list-returns c x h ws e = (
@@ -252,8 +255,8 @@ module _ (n : ℕ) (rows b : List ℕ) (o : Opens n rows b) (xs : List Call) whe
   -- a block alone
   alone-out : (c w h : ℕ) → h ≤ hostMax → OutIn vs c w → ListOut vs c h (w ∷ [])
   alone-out c w h low p =
-      let k = reached c in
-      let y = lies k w (out-here c w p) in
+      let k = class-after c in
+      let y = lies k w (out-after c w p) in
       let s = lies-on y in
       record {
         host = low;

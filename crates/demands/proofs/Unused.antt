@@ -37,7 +37,7 @@ use Rattle.demands.specs.Demands.{Grows, grew, elsewhere, exhausted, ung
 use Rattle.demands.proofs.Calls.{room}
 use Rattle.demands.proofs.Histories.{next-agrees}
 use Rattle.demands.proofs.Observed.{observed-live, observed-direct}
-use Rattle.demands.proofs.Codes.{ask}
+use Rattle.demands.proofs.Codes.{classAsk}
 use Rattle.demands.proofs.Held.{grow-fits}
 use Rattle.demands.proofs.Places.{byte-held}
 
@@ -59,7 +59,7 @@ module _ (n : ℕ) (rows b : List ℕ) (o : Opens n rows b) (xs : List Call) whe
   arena = heap .arena
 
   -- m pages at q lie in the arena and were idle
-  record Drawn (q m : ℕ) : Type 0 where
+  record WasIdle (q m : ℕ) : Type 0 where
     inside : q + m ≤ n
     pages : (x : ℕ) → covers m q x ≤ idle x arena
 
@@ -74,8 +74,8 @@ module _ (n : ℕ) (rows b : List ℕ) (o : Opens n rows b) (xs : List Call) whe
   commits-inside (BestFit.ungranted u) e = absurd (Option·none-ne-some _ e)
   commits-inside (BestFit.exhausted u v) e = absurd (Option·none-ne-some _ e)
 
-  commit-drawn : (h m q : ℕ) → Arenas.commit n h m arena .run ≡ some q → Drawn q m
-  commit-drawn h m q e = record {
+  commit-idle : (h m q : ℕ) → Arenas.commit n h m arena .run ≡ some q → WasIdle q m
+  commit-idle h m q e = record {
     inside = commits-inside (best-fit n (rulesOf rows) xs .commits h m) e;
     pages = λ x. omega (arith, commit-law n h m arena .pages x, ap (λ r. coversRun m r x) e);
   }
@@ -94,22 +94,22 @@ module _ (n : ℕ) (rows b : List ℕ) (o : Opens n rows b) (xs : List Call) whe
       (λ t. by-cases (badGrowth old new) (λ u. absurd (false≢true (rw (t, u) at e)))
       (λ u. by-cases (heldDirect n heap q old) (λ v. rw (t, u, v) at e) (λ v. absurd (false≢true (rw (t, u, v) at e)))))
 
-  offer-drawn : (h : ℕ) (q : Ask) (r : Hole) → runWith (asked q) (offer n h arena q .run) ≡ some r → Drawn (r .first) (r .pages)
+  offer-idle : (h : ℕ) (q : Ask) (r : Hole) → runWith (asked q) (offer n h arena q .run) ≡ some r → WasIdle (r .first) (r .pages)
   unfolding offer
-  offer-drawn h (done x) r e = absurd (Option·none-ne-some r e)
-  offer-drawn h (asks m k) r e = with-run (Arenas.commit n h m arena .run) refl e
+  offer-idle h (done x) r e = absurd (Option·none-ne-some r e)
+  offer-idle h (asks m k) r e = with-run (Arenas.commit n h m arena .run) refl e
     where
-      with-run : (g : Option ℕ) → Arenas.commit n h m arena .run ≡ g → runWith m g ≡ some r → Drawn (r .first) (r .pages)
+      with-run : (g : Option ℕ) → Arenas.commit n h m arena .run ≡ g → runWith m g ≡ some r → WasIdle (r .first) (r .pages)
       with-run none d f = absurd (Option·none-ne-some r f)
-      with-run (some q) d f = let z : hole q m ≡ r = cc in subst (λ (x : Hole). Drawn (x .first) (x .pages)) z (commit-drawn h m q d)
+      with-run (some q) d f = let z : hole q m ≡ r = cc in subst (λ (x : Hole). WasIdle (x .first) (x .pages)) z (commit-idle h m q d)
 
-  class-drawn : (y : Call) (d : Named) (r : Hole) → names y ≡ some d → step n heap y .run ≡ some r → Drawn (r .first) (r .pages)
+  class-idle : (y : Call) (d : Named) (r : Hole) → names y ≡ some d → step n heap y .run ≡ some r → WasIdle (r .first) (r .pages)
   unfolding step wayOf classCall interact finish
-  class-drawn y d r e f =
-      by-cases (badHost (hostIn y)) (λ t. absurd (Option·none-ne-some r (rw t at f))) (λ t. offer-drawn (hostOf (d .request)) (ask heap d) r (rw (t, e) at f))
+  class-idle y d r e f =
+      by-cases (badHost (hostIn y)) (λ t. absurd (Option·none-ne-some r (rw t at f))) (λ t. offer-idle (hostOf (d .request)) (classAsk heap d) r (rw (t, e) at f))
 
   -- ---- an idle page is nobody's
-  unused : {q m : ℕ} → Drawn q m → Unused n (observed n rows b xs) q m
+  unused : {q m : ℕ} → WasIdle q m → Unused n (observed n rows b xs) q m
   unused {q} {m} d = record {
     inside = d .inside;
     offDirect = λ k l.
@@ -127,7 +127,7 @@ module _ (n : ℕ) (rows b : List ℕ) (o : Opens n rows b) (xs : List Call) whe
   }
 
   pub commit-unused : (h m q : ℕ) (fresh : Bool) → next n rows b xs (Calls.commit h m) .answer ≡ Calls.run q fresh → Unused n (observed n rows b xs) q m
-  commit-unused h m q fresh e = unused (commit-drawn h m q (commit-run h m q (ap runOf (sym (next-agrees n rows b o xs (Calls.commit h m) .answer) ∙ e))))
+  commit-unused h m q fresh e = unused (commit-idle h m q (commit-run h m q (ap runOf (sym (next-agrees n rows b o xs (Calls.commit h m) .answer) ∙ e))))
 
   pub growth-unused : (h q old new : ℕ) → next n rows b xs (Calls.growFrontier h q old new) .answer ≡ Calls.grown true → Unused n (observed n rows b xs) (q + old) (new - old)
   growth-unused h q old new e =
@@ -136,4 +136,4 @@ module _ (n : ℕ) (rows b : List ℕ) (o : Opens n rows b) (xs : List Call) whe
       unused (record { inside = grows-inside (grow-fits n h (q + old) m arena) g; pages = λ x. omega (arith, rw g at (grow-law n h (q + old) m arena x)) })
 
   pub class-unused : (x : Call) (d : Named) (r : Hole) → names x ≡ some d → step n heap x .run ≡ some r → Unused n (observed n rows b xs) (r .first) (r .pages)
-  class-unused x d r e f = unused (class-drawn x d r e f)
+  class-unused x d r e f = unused (class-idle x d r e f)
