@@ -25,10 +25,10 @@ use Rattle.model.specs.Page.{Page}
 use Rattle.model.specs.Arena as Arenas
 use Rattle.model.specs.Arena.{Arena}
 use Rattle.model.specs.Class as Classes
-use Rattle.model.specs.Class.{Class, Cold, Result, Ask, done, asks, serve, refuse, onRun, takeFrom}
+use Rattle.model.specs.Class.{Class, Cold, Result, Ask, done, asks, serve, onRun, takeFrom}
 use Rattle.model.specs.Release.{Site, onPage, releaseList}
 use Rattle.model.specs.Chunks.{releaseChunks, answer}
-use Rattle.model.specs.Heap.{badRun, runWith, asked, offer, finish, interact, classCall, commitCall, directCall, step}
+use Rattle.model.specs.Heap.{Heap, badRun, runWith, asked, offer, finish, interact, classCall, commitCall, directCall, step}
 use Rattle.model.specs.History.{Event, heapAfter, withCall}
 use Rattle.model.specs.BestFit.{Commits, from-hole, from-frontier, unusable, ungranted, exhausted}
 use Rattle.model.specs.Yields.{TakeYields, refuses, yields, asks-first}
@@ -41,7 +41,7 @@ use Rattle.demands.specs.Run.{Opens, run, bookAfter, next, recounted, re
 use Rattle.demands.specs.Demands.{CommitFits, RunFits, unasked, nothing, given, Asks}
 use Rattle.demands.proofs.Histories.{run-represents, next-agrees}
 use Rattle.demands.proofs.Observed.{recounted-is}
-use Rattle.demands.proofs.Codes.{next-host, next-step, next-answer, next-unrefused, next-zero}
+use Rattle.demands.proofs.Codes.{classAsk, classRun, step-class, next-host, next-answer, next-exactly}
 
 -- ---- a request stays with its class, or goes to the arena for m pages; A says that it should
 pub data Reaches (m : ℕ) (A : Type 0) : Ask → Type 0 where
@@ -83,25 +83,21 @@ module _ (sh : Shape) (lim : Limits) where
   ask-unrefused l fs none = refl
   ask-unrefused l fs (some q) = refl
 
-  module _ (vs : List Event) (c : ℕ) (s : Class) (spent : Spent vs c ↔ NoneListed s) (code : ℕ) (g : Option ℕ) where
-    -- the number is 0 exactly if the class, given g, does not refuse
-    record Codes (r : Request) : Type 0 where
-      unrefused : code ≡ 0 → isRefused (serve (answer sh lim s r) g .answer) ≡ false
-      zero : isRefused (serve (answer sh lim s r) g .answer) ≡ false → code ≡ 0
+  -- the number is 0 exactly if the class, given g, does not refuse
+  module _ {vs : List Event} {c : ℕ} {s : Class} (spent : Spent vs c ↔ NoneListed s) (code : ℕ) (g : Option ℕ) where
+    abbrev Exactly : Request → Type 0
+    Exactly r = (code ≡ 0) ↔ (isRefused (serve (answer sh lim s r) g .answer) ≡ false)
 
-    refused-home : (k : ℕ) (r : Request) → (code ≡ 0 → isRefused (serve (refuse s k) g .answer) ≡ false) → Reaches (sh .pages) (Asks vs c r code) (refuse s k)
-    refused-home k r z = home (λ a. false≢true (sym (z (a .unrefused))))
-
-    take-home : (h : ℕ) (l : List ℕ) → (code ≡ 0 → isRefused (serve (answer sh lim s (Calls.take h l)) g .answer) ≡ false)
-        → (isRefused (serve (answer sh lim s (Calls.take h l)) g .answer) ≡ false → code ≡ 0) → Reaches (sh .pages) (Asks vs c (Calls.take h l) code) (answer sh lim s (Calls.take h l))
+    take-home : (h : ℕ) (l : List ℕ) → Exactly (Calls.take h l) → Reaches (sh .pages) (Asks vs c (Calls.take h l) code) (answer sh lim s (Calls.take h l))
     unfolding answer
-    take-home h l z y =
-        by-cases (ltb (length l) (sh .batch)) (λ u. rw u (refused-home 5 (Calls.take h l) (rw u at z)))
+    take-home h l z =
+        by-cases (ltb (length l) (sh .batch))
+        (λ u. rw u (home (λ a. false≢true (sym (rw u at (z .0 (a .unrefused)))))))
         (λ u. rw u (take-reaches (Asks vs c (Calls.take h l) code) l (s .partial) (s .empty) (s .cold) (s .full) (λ a. let n = spent .0 (a .spent) in (n .partial, n .empty, n .cold))
-        (λ p q r. record { take = refl; unrefused = (rw (u, p, q, r) at y) (ask-unrefused l (s .full) g); spent = spent .1 (record { partial = p; empty = q; cold = r }) })))
+        (λ p q r. record { take = refl; unrefused = (rw (u, p, q, r) at (z .1)) (ask-unrefused l (s .full) g); spent = spent .1 (record { partial = p; empty = q; cold = r }) })))
 
-    reaches : (r : Request) → Codes r → Reaches (sh .pages) (Asks vs c r code) (answer sh lim s r)
-    reaches (Calls.take h l) z = take-home h l (z .unrefused) (z .zero)
+    reaches : (r : Request) → Exactly r → Reaches (sh .pages) (Asks vs c r code) (answer sh lim s r)
+    reaches (Calls.take h l) z = take-home h l z
     reaches (Calls.giveBack h ws) z = list-home sh lim (sh .pages) _ (λ a. false≢true (a .take)) s h ws
     reaches (Calls.giveChunks h ws gs fs) z = chunks-home sh lim (sh .pages) _ (λ a. false≢true (a .take)) s h ws gs fs
 
@@ -137,7 +133,13 @@ module _ (n h m : ℕ) (a : Arena) (fits : Commits n h m a (Arenas.commit n h m 
 
 -- ---- after a history
 module _ (n : ℕ) (rows b : List ℕ) (o : Opens n rows b) (xs : List Call) where
-  loads : loadArena (bookAfter n rows b xs) ≡ heapAfter n (rulesOf rows) xs .arena
+  abbrev heap : Heap
+  heap = heapAfter n (rulesOf rows) xs
+
+  abbrev vs : List Event
+  vs = recounted n (rulesOf rows) xs (run n rows b xs)
+
+  loads : loadArena (bookAfter n rows b xs) ≡ heap .arena
   loads = run-represents n rows b o xs .arena .loads
 
   pub holes-counted : loadArena (bookAfter n rows b xs) .store .total ≡ total (λ x. x .pages) (loadArena (bookAfter n rows b xs) .store .holes)
@@ -146,90 +148,70 @@ module _ (n : ℕ) (rows b : List ℕ) (o : Opens n rows b) (xs : List Call) whe
   pub commit-fits : (h m : ℕ) → h ≤ hostMax → badRun m ≡ false → CommitFits n h m (loadArena (bookAfter n rows b xs)) (next n rows b xs (Calls.commit h m) .answer)
   unfolding step wayOf directCall commitCall
   commit-fits h m low good = record {
-    run = Arenas.commit n h m (heapAfter n (rulesOf rows) xs .arena) .run;
-    fresh = Arenas.commit n h m (heapAfter n (rulesOf rows) xs .arena) .fresh;
+    run = Arenas.commit n h m (heap .arena) .run;
+    fresh = Arenas.commit n h m (heap .arena) .fresh;
     fits = rw loads (best-fit n (rulesOf rows) xs .commits h m);
     answer = next-agrees n rows b o xs (Calls.commit h m) .answer ∙ rw (le-ltb hostMax h low, good);
   }
 
   -- a call that names a class and passed number 3 is answered by the class, after what the arena gives it
   module _ (x : Call) (d : Named) (e : names x ≡ some d) where
-    abbrev ask : Ask
-    ask = answer (shapeOf (d .class)) (heapAfter n (rulesOf rows) xs .rules (d .class)) (heapAfter n (rulesOf rows) xs .classes (d .class)) (d .request)
-
-    abbrev gives : Option ℕ
-    gives = offer n (hostOf (d .request)) (heapAfter n (rulesOf rows) xs .arena) ask .run
-
-    abbrev vs : List Event
-    vs = recounted n (rulesOf rows) xs (run n rows b xs)
-
     abbrev Asked : Type 0
     Asked = Asks vs (d .class) (d .request) (next n rows b xs x .code)
 
-    spent : Spent vs (d .class) ↔ NoneListed (heapAfter n (rulesOf rows) xs .classes (d .class))
+    spent : Spent vs (d .class) ↔ NoneListed (heap .classes (d .class))
     spent = rw (recounted-is n rows b o xs) (offered n (rulesOf rows) xs .spent (d .class))
 
     module _ (host : badHost (hostOf (d .request)) ≡ false) where
-      codes : Codes (shapeOf (d .class)) (heapAfter n (rulesOf rows) xs .rules (d .class)) vs (d .class) (heapAfter n (rulesOf rows) xs .classes (d .class)) spent (next n rows b xs x .code) gives (d .request)
-      unfolding classCall interact finish
-      codes = record {
-        unrefused = next-unrefused n rows b o xs x d e host;
-        zero = next-zero n rows b o xs x d e host;
-      }
+      reached : Reaches (shapeOf (d .class) .pages) Asked (classAsk heap d)
+      reached = reaches (shapeOf (d .class)) (heap .rules (d .class)) spent (next n rows b xs x .code) (classRun n heap d) (d .request) (next-exactly n rows b o xs x d e host)
 
-      served : next n rows b xs x .answer ≡ serve ask gives .answer
-      unfolding classCall interact finish
-      served = next-answer n rows b o xs x d e host
-
-      reached : Reaches (shapeOf (d .class) .pages) Asked ask
-      reached = reaches (shapeOf (d .class)) (heapAfter n (rulesOf rows) xs .rules (d .class)) vs (d .class) (heapAfter n (rulesOf rows) xs .classes (d .class)) spent (next n rows b xs x .code) gives (d .request) codes
-
-      class-fits : RunFits n (hostOf (d .request)) (shapeOf (d .class) .pages) (loadArena (bookAfter n rows b xs)) Asked (classCall n (heapAfter n (rulesOf rows) xs) (d .class) (d .request) .run)
+      class-fits : RunFits n (hostOf (d .request)) (shapeOf (d .class) .pages) (loadArena (bookAfter n rows b xs)) Asked (classCall n heap (d .class) (d .request) .run)
       unfolding classCall interact finish
       class-fits =
           rw loads
-          (offer-fits n (hostOf (d .request)) (shapeOf (d .class) .pages) (heapAfter n (rulesOf rows) xs .arena) (best-fit n (rulesOf rows) xs .commits (hostOf (d .request)) (shapeOf (d .class) .pages)) reached)
+          (offer-fits n (hostOf (d .request)) (shapeOf (d .class) .pages) (heap .arena) (best-fit n (rulesOf rows) xs .commits (hostOf (d .request)) (shapeOf (d .class) .pages)) reached)
 
-    no-run : badHost (hostOf (d .request)) ≡ true → step n (heapAfter n (rulesOf rows) xs) x .run ≡ none
+    no-run : badHost (hostOf (d .request)) ≡ true → step n heap x .run ≡ none
     unfolding step wayOf
     no-run t = rw (host-of x d e, t)
 
-    pub run-fits : RunFits n (hostOf (d .request)) (shapeOf (d .class) .pages) (loadArena (bookAfter n rows b xs)) Asked (step n (heapAfter n (rulesOf rows) xs) x .run)
+    pub run-fits : RunFits n (hostOf (d .request)) (shapeOf (d .class) .pages) (loadArena (bookAfter n rows b xs)) Asked (step n heap x .run)
     run-fits =
         by-cases (badHost (hostOf (d .request)))
         (λ t. rw (no-run t) (unasked (λ a. false≢true (sym (next-host n rows b o xs x d e (a .unrefused)) ∙ t))))
-        (λ t. rw (next-step n rows b o xs x d e t) (class-fits t))
+        (λ t. rw (step-class n heap x d e t) (class-fits t))
 
   module _ (x : Call) (c h : ℕ) (l : List ℕ) (e : names x ≡ some (record { class = c; request = Calls.take h l })) where
     abbrev taking : Named
     taking = record { class = c; request = Calls.take h l }
 
-    nothing-left : {A B : Type 0} → A ⊎ (Asked x taking e × B) → A ⊎ (Spent (vs x taking e) c × B)
+    nothing-left : {A B : Type 0} → A ⊎ (Asked x taking e × B) → A ⊎ (Spent vs c × B)
     nothing-left (inl p) = inl p
     nothing-left (inr p) = inr (p .0 .spent, p .1)
 
     pub take-yields : next n rows b xs x .code ≡ 0
-        → (isNil (blocksOf (next n rows b xs x .answer)) ≡ false) ⊎ (Spent (vs x taking e) c × Commits n h (shapeOf c .pages) (loadArena (bookAfter n rows b xs)) none false)
+        → (isNil (blocksOf (next n rows b xs x .answer)) ≡ false) ⊎ (Spent vs c × Commits n h (shapeOf c .pages) (loadArena (bookAfter n rows b xs)) none false)
     take-yields z =
         let t = next-host n rows b o xs x taking e z in
-        rw (loads, served x taking e t)
-        (nothing-left (offer-yields n h (shapeOf c .pages) (heapAfter n (rulesOf rows) xs .arena) (best-fit n (rulesOf rows) xs .commits h (shapeOf c .pages)) (reached x taking e t) (yielding n (rulesOf rows) xs .takes c h l)
-        (codes x taking e t .unrefused z)))
+        rw (loads, next-answer n rows b o xs x taking e t)
+        (nothing-left (offer-yields n h (shapeOf c .pages) (heap .arena) (best-fit n (rulesOf rows) xs .commits h (shapeOf c .pages)) (reached x taking e t) (yielding n (rulesOf rows) xs .takes c h l)
+        (next-exactly n rows b o xs x taking e t .0 z)))
 
     -- the history with the take at its end is the model's
     with-take : recountedWith n (rulesOf rows) (bookAfter n rows b xs) xs (run n rows b xs) x ≡ withCall n (rulesOf rows) xs x
     with-take =
-        ap₂ (λ (us : List Event) (a : Answer). us ++ record { call = x; answer = a; run = step n (heapAfter n (rulesOf rows) xs) x .run } ∷ [])
+        ap₂ (λ (us : List Event) (a : Answer). us ++ record { call = x; answer = a; run = step n heap x .run } ∷ [])
         (recounted-is n rows b o xs) (next-agrees n rows b o xs x .answer)
 
     module _ (z : next n rows b xs x .code ≡ 0) where
-      unrefused : isRefused (step n (heapAfter n (rulesOf rows) xs) x .answer) ≡ false
+      unrefused : isRefused (step n heap x .answer) ≡ false
       unfolding classCall interact finish
       unrefused =
           let t = next-host n rows b o xs x taking e z in
-          rw (next-step n rows b o xs x taking e t) (codes x taking e t .unrefused z)
+          rw (step-class n heap x taking e t) (next-exactly n rows b o xs x taking e t .0 z)
 
-      agrees : next n rows b xs x .answer ≡ step n (heapAfter n (rulesOf rows) xs) x .answer
+      agrees : next n rows b xs x .answer ≡ step n heap x .answer
       agrees = next-agrees n rows b o xs x .answer
 
       pub take-fewer : length (blocksOf (next n rows b xs x .answer)) < shapeOf c .batch → NonePartial (recountedWith n (rulesOf rows) (bookAfter n rows b xs) xs (run n rows b xs) x) c
@@ -238,13 +220,13 @@ module _ (n : ℕ) (rows b : List ℕ) (o : Opens n rows b) (xs : List Call) whe
       pub take-most : length (blocksOf (next n rows b xs x .answer)) ≤ shapeOf c .batch
       take-most = rw agrees (offered n (rulesOf rows) xs .most x c h l e unrefused)
 
-      pub take-turns : Turns (recounted n (rulesOf rows) xs (run n rows b xs)) c (record { call = x; answer = next n rows b xs x .answer; run = step n (heapAfter n (rulesOf rows) xs) x .run })
+      pub take-turns : Turns vs c (record { call = x; answer = next n rows b xs x .answer; run = step n heap x .run })
       take-turns =
-          subst (λ (a : Answer). Turns (recounted n (rulesOf rows) xs (run n rows b xs)) c (record { call = x; answer = a; run = step n (heapAfter n (rulesOf rows) xs) x .run })) (sym agrees)
-          (subst (λ (us : List Event). Turns us c (record { call = x; answer = step n (heapAfter n (rulesOf rows) xs) x .answer; run = step n (heapAfter n (rulesOf rows) xs) x .run })) (sym (recounted-is n rows b o xs))
+          subst (λ (a : Answer). Turns vs c (record { call = x; answer = a; run = step n heap x .run })) (sym agrees)
+          (subst (λ (us : List Event). Turns us c (record { call = x; answer = step n heap x .answer; run = step n heap x .run })) (sym (recounted-is n rows b o xs))
           (sources n (rulesOf rows) xs .turns x c h l e unrefused))
 
       pub take-virgin : Virgin (recountedWith n (rulesOf rows) (bookAfter n rows b xs) xs (run n rows b xs) x) c (next n rows b xs x .answer)
       take-virgin =
           subst (λ (a : Answer). Virgin (recountedWith n (rulesOf rows) (bookAfter n rows b xs) xs (run n rows b xs) x) c a) (sym agrees)
-          (subst (λ (us : List Event). Virgin us c (step n (heapAfter n (rulesOf rows) xs) x .answer)) (sym with-take) (virgins n (rulesOf rows) xs .virgin x c h l e unrefused))
+          (subst (λ (us : List Event). Virgin us c (step n heap x .answer)) (sym with-take) (virgins n (rulesOf rows) xs .virgin x c h l e unrefused))

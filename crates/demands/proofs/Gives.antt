@@ -21,7 +21,6 @@ use Rattle.model.specs.HoleStore.{accepts}
 use Rattle.model.specs.Arena as Arenas
 use Rattle.model.specs.Arena.{Arena, Status, unasked, ready, disabled, withStatus, withFrontier, give, giveAll, draw, grant, commitReady, commitAs, grow}
 use Rattle.model.specs.Class.{serve}
-use Rattle.model.specs.Chunks.{answer}
 use Rattle.model.specs.Heap.{Heap, offer, finish, interact, classCall, badRun, badGrowth, heldDirect, answerRun, commitCall, growCall, releaseCall, directCall, step}
 use Rattle.model.specs.History.{heapAfter}
 use Rattle.model.specs.BestFit.{usable}
@@ -36,7 +35,7 @@ use Rattle.demands.specs.Call.{call}
 use Rattle.demands.specs.Run.{Opens, bookAfter, next}
 use Rattle.demands.specs.Demands.{GivenTo, GivenInTurn, all-given, first-given}
 use Rattle.demands.proofs.Histories.{run-represents, next-agrees}
-use Rattle.demands.proofs.Codes.{unrefused-of, next-host, next-step}
+use Rattle.demands.proofs.Codes.{classAsk, step-class, zero-exactly, next-host}
 
 give-given : (m q : ℕ) → 1 ≤ m → (a : Arena) → GivenTo m q a (give m q a)
 unfolding give
@@ -94,47 +93,50 @@ module _ (n : ℕ) (H : Heap) (h : ℕ) where
 
 -- ---- on the words
 module _ (n : ℕ) (rows b : List ℕ) (o : Opens n rows b) (xs : List Call) where
+  abbrev heap : Heap
+  heap = heapAfter n (rulesOf rows) xs
+
+  loads : loadArena (bookAfter n rows b xs) ≡ heap .arena
+  loads = run-represents n rows b o xs .arena .loads
+
   pub none-touch : NoTwoTouch (loadArena (bookAfter n rows b xs) .store .holes)
-  none-touch = rw (run-represents n rows b o xs .arena .loads) (joining n (rulesOf rows) xs .noTwoTouch)
+  none-touch = rw loads (joining n (rulesOf rows) xs .noTwoTouch)
 
   pub run-given : (h q m : ℕ) → next n rows b xs (Calls.release h q m) .code ≡ 0 → GivenTo m q (loadArena (bookAfter n rows b xs)) (loadArena (next n rows b xs (Calls.release h q m) .book))
   unfolding call
   run-given h q m e =
       let z = next-agrees n rows b o xs (Calls.release h q m) in
-      let s = step-release n (heapAfter n (rulesOf rows) xs) h q m (rw (z .answer) at (unrefused-of (releaseOn (bookAfter n rows b xs) h q m .code) Calls.released refl e)) in
-      rw (z .heap .arena .loads ∙ s .1, run-represents n rows b o xs .arena .loads) (give-given m q (s .0) (heapAfter n (rulesOf rows) xs .arena))
+      let s = step-release n heap h q m (rw (z .answer) at (zero-exactly (releaseOn (bookAfter n rows b xs) h q m .code) Calls.released refl .0 e)) in
+      rw (z .heap .arena .loads ∙ s .1, loads) (give-given m q (s .0) (heap .arena))
 
   pub commit-given : (h m q : ℕ) → next n rows b xs (Calls.commit h m) .code ≡ 0 → usable h (loadArena (bookAfter n rows b xs) .status) ≡ true → commitGranted h ≡ false
       → draw n m (withStatus ready (loadArena (bookAfter n rows b xs))) .run ≡ some q
       → GivenTo m q (draw n m (withStatus ready (loadArena (bookAfter n rows b xs))) .arena) (loadArena (next n rows b xs (Calls.commit h m) .book))
   unfolding call
   commit-given h m q e u c d =
-      let a = heapAfter n (rulesOf rows) xs .arena in
+      let a = heap .arena in
       let w = commitOn (bookAfter n rows b xs) h m in
-      let l = run-represents n rows b o xs .arena .loads in
       let z = next-agrees n rows b o xs (Calls.commit h m) in
-      let s = step-commit n (heapAfter n (rulesOf rows) xs) h m (rw (z .answer) at (unrefused-of (w .code) (answerRun (w .run) (w .fresh)) (run-answered (w .run) (w .fresh)) e)) in
-      rw (z .heap .arena .loads ∙ s .1 ∙ commit-gives n h m q a c (rw l at u) (rw l at d), l) (give-given m q (s .0) (draw n m (withStatus ready a) .arena))
+      let s = step-commit n heap h m (rw (z .answer) at (zero-exactly (w .code) (answerRun (w .run) (w .fresh)) (run-answered (w .run) (w .fresh)) .0 e)) in
+      rw (z .heap .arena .loads ∙ s .1 ∙ commit-gives n h m q a c (rw loads at u) (rw loads at d), loads) (give-given m q (s .0) (draw n m (withStatus ready a) .arena))
 
   pub growth-given : (h q old new : ℕ) → next n rows b xs (Calls.growFrontier h q old new) .code ≡ 0
       → loadArena (bookAfter n rows b xs) .frontier ≡ q + old → q + old + (new - old) ≤ n → commitGranted h ≡ false
       → GivenTo (new - old) (q + old) (withFrontier (q + old + (new - old)) (loadArena (bookAfter n rows b xs))) (loadArena (next n rows b xs (Calls.growFrontier h q old new) .book))
   unfolding call
   growth-given h q old new e f k c =
-      let a = heapAfter n (rulesOf rows) xs .arena in
+      let a = heap .arena in
       let w = growOn (bookAfter n rows b xs) h q old new in
-      let l = run-represents n rows b o xs .arena .loads in
       let z = next-agrees n rows b o xs (Calls.growFrontier h q old new) in
-      let s = step-growth n (heapAfter n (rulesOf rows) xs) h q old new (rw (z .answer) at (unrefused-of (w .code) (Calls.grown (w .yes)) refl e)) in
-      rw (z .heap .arena .loads ∙ s .1 ∙ growth-gives n h (new - old) (q + old) a c (rw l at f) k, l) (give-given (new - old) (q + old) (s .0) (withFrontier (q + old + (new - old)) a))
+      let s = step-growth n heap h q old new (rw (z .answer) at (zero-exactly (w .code) (Calls.grown (w .yes)) refl .0 e)) in
+      rw (z .heap .arena .loads ∙ s .1 ∙ growth-gives n h (new - old) (q + old) a c (rw loads at f) k, loads) (give-given (new - old) (q + old) (s .0) (withFrontier (q + old + (new - old)) a))
 
   pub class-given : (x : Call) (d : Named) → names x ≡ some d → next n rows b xs x .code ≡ 0
-      → (let q = answer (shapeOf (d .class)) (heapAfter n (rulesOf rows) xs .rules (d .class)) (heapAfter n (rulesOf rows) xs .classes (d .class)) (d .request) in
+      → (let q = classAsk heap d in
       let g = offer n (hostOf (d .request)) (loadArena (bookAfter n rows b xs)) q in
       GivenInTurn (shapeOf (d .class) .pages) (serve q (g .run) .gives) (g .arena) (loadArena (next n rows b xs x .book)))
   unfolding classCall interact finish
   class-given x d e z =
-      let q = answer (shapeOf (d .class)) (heapAfter n (rulesOf rows) xs .rules (d .class)) (heapAfter n (rulesOf rows) xs .classes (d .class)) (d .request) in
-      let g = offer n (hostOf (d .request)) (heapAfter n (rulesOf rows) xs .arena) q in
-      let s = next-step n rows b o xs x d e (next-host n rows b o xs x d e z) in
-      rw (next-agrees n rows b o xs x .heap .arena .loads, s, run-represents n rows b o xs .arena .loads) (all-in-turn (shapeOf (d .class) .pages) (shape-sound (d .class) .paged) (serve q (g .run) .gives) (g .arena))
+      let q = classAsk heap d in
+      let g = offer n (hostOf (d .request)) (heap .arena) q in
+      rw (next-agrees n rows b o xs x .heap .arena .loads, step-class n heap x d e (next-host n rows b o xs x d e z), loads) (all-in-turn (shapeOf (d .class) .pages) (shape-sound (d .class) .paged) (serve q (g .run) .gives) (g .arena))

@@ -4,7 +4,7 @@
 --     groups-go          the groups in their order
 use Prim.Native.Nat.{ℕ, _+_, _<_}
 use native.Mathlib.Omega.{arith}
-use mathlib.Core.Bool.{Bool, true, false, cond, not, true≢false, false≢true}
+use mathlib.Core.Bool.{Bool, true, false, cond, not, false≢true}
 use mathlib.Core.List.{List, [], _∷_, _++_, map}
 use mathlib.Core.Option.{Option, none, some, Option·none-ne-some, Option·some-injective}
 use mathlib.Core.Path.{_≡_, refl, sym, ap, _∙_, subst}
@@ -14,25 +14,24 @@ use lib.Seq.{take-append-seam}
 use borrow.Author.Tests.{eqb-true, lt-ltb, not-true}
 use Rattle.facts.specs.Lists.{All, every, elem, distinct}
 use Rattle.facts.proofs.Bools.{by-cases, and-left, and-right, nor-left, nor-right}
-use Rattle.words.specs.Host.{badHost, digit}
+use Rattle.words.specs.Host.{digit}
 use Rattle.words.specs.Word.{pageOf}
 use Rattle.classes.specs.declared.Shape.{Shape}
 use Rattle.classes.specs.Shape.{shapeOf}
-use Rattle.classes.specs.way.Sound.{Sound}
 use Rattle.classes.proofs.Shapes.{shape-sound}
 use Rattle.rules.specs.declared.Limits.{Limits}
 use Rattle.rules.specs.Rules.{Rules}
 use Rattle.model.specs.declared.Destination.{Destination}
 use Rattle.model.specs.declared.Destination.the-variants.{ToEmpty, ToCold, ToArena}
 use Rattle.model.specs.Calls as Calls
-use Rattle.model.specs.Calls.{Call, Answer, fate, isRefused, wayOf}
+use Rattle.model.specs.Calls.{Call, fate, names, isRefused}
 use Rattle.model.specs.Page.{Page, isMedium, isOut, noneOut, returned, retire}
-use Rattle.model.specs.Class.{Class, serve}
+use Rattle.model.specs.Class.{Class}
 use Rattle.model.specs.Destination.{fateOf, keptFate, retired}
 use Rattle.model.specs.Release.{Site, Settled, locate, destinationIn, park, settle}
-use Rattle.model.specs.Chunks.{startsAt, blocksOn, fitsOn, chunkFits, settleChunk, settleChunks, answer}
+use Rattle.model.specs.Chunks.{startsAt, blocksOn, fitsOn, chunkFits, settleChunk, settleChunks}
 use Rattle.model.specs.Held.{fatesIn}
-use Rattle.model.specs.Heap.{Heap, step, classCall, interact, finish, offer}
+use Rattle.model.specs.Heap.{step}
 use Rattle.model.specs.History.{Event, events, heapAfter}
 use Rattle.model.proofs.Counts.{elem-count, count-in, filter-le, filter-keeps}
 use Rattle.model.proofs.Fates.{chunks-fated}
@@ -44,7 +43,8 @@ use Rattle.refinement.proofs.ChunkWhole.{small-shape}
 use Rattle.refinement.proofs.Found.{Located, located, located-passes}
 use Rattle.refinement.proofs.Chunks.{Adds, settle-adds, settle-skips, every-blocks, once-blocks}
 use Rattle.demands.specs.Parking.{Empties, GroupsGo}
-use Rattle.demands.proofs.ChunkReturns.{chunks-tests, tests-fates}
+use Rattle.demands.proofs.Codes.{step-served}
+use Rattle.demands.proofs.ChunkReturns.{chunks-passed}
 use Rattle.demands.proofs.Fates.{Freed, in-fate, beside, emptied-none, none-emptied, out-there}
 
 -- ---- a group's fate, and what it tells of the stores
@@ -56,13 +56,13 @@ module _ (sh : Shape) (small : isMedium sh ≡ false) (lim : Limits) (h : ℕ) w
   counts-observed e k ToCold true y a f = (a .empty ∙ rw (f, small), a .cold ∙ rw (f, small))
   counts-observed e k ToArena true y a f = (a .empty ∙ rw f, a .cold ∙ rw (f, small))
 
-  settle-fate : Sound sh → {t : Page → Bool} {s : Class} {x : Site} → Located t s (some x) → (ws : List ℕ)
+  settle-fate : {t : Page → Bool} {s : Class} {x : Site} → Located t s (some x) → (ws : List ℕ)
       → settle sh lim h true ws x .fate ≡ cond (noneOut sh (returned ws (x .page))) (retired (fateOf sh (destinationIn sh lim s))) keptFate
   unfolding settle park
-  settle-fate ok {x = x} l ws =
+  settle-fate {x = x} l ws =
       let k = beside l in
       by-cases (noneOut sh (returned ws (x .page)))
-      (λ e. rw e (ap retired (in-fate sh ok lim h (x .without) (retire (x .page)) (destinationIn sh lim (x .without)) ∙ rw (k .0, k .1))))
+      (λ e. rw e (ap retired (in-fate sh h (x .without) (retire (x .page)) (destinationIn sh lim (x .without)) ∙ rw (k .0, k .1))))
       (λ e. rw e)
 
 -- ---- against the history
@@ -89,16 +89,15 @@ module _ (size : ℕ) (limits : Rules) (xs : List Call) (c h : ℕ) (lim : Limit
   decides q x l law =
       let bs = blocksOn sh ws (x .page) in
       let k = beside l in
-      let a = fate (settle sh lim h false (blocksOn sh ws (x .page)) x .fate) in
-      let f : Freed sh (shape-sound c) lim h s (blocksOn sh ws (x .page)) (fate (settle sh lim h false (blocksOn sh ws (x .page)) x .fate))
+      let f : Freed sh lim h s (blocksOn sh ws (x .page)) (fate (settle sh lim h false (blocksOn sh ws (x .page)) x .fate))
       = record { site = x; law = law; empty = k .0; cold = k .1; outs = every-blocks sh ws (x .page); once = once-blocks sh ws single (x .page); is = refl } in
       let run : x .page .first ≡ q = eqb-true (x .page .first) q (located-passes l) in
       let t : ℕ → Bool = λ w. isOut sh w (x .page) in
       record {
-        all = λ e. emptied-none size limits xs c h lim bs a f q run (λ w m o.
-            let y = out-is sh (shape-sound c) w (x .page) (out-there size limits xs c h lim bs a f q run w m o) in
+        all = λ e. emptied-none size limits xs c f run (λ w m o.
+            let y = out-is sh (shape-sound c) w (x .page) (out-there size limits xs c f run w m o) in
             count-in w bs (omega (arith, filter-keeps t w ws y, elem-count w ws (e w m o))));
-        only = λ e w m o. count-in w ws (omega (arith, filter-le t w ws, elem-count w bs (none-emptied size limits xs c h lim bs a f q run e w m o)));
+        only = λ e w m o. count-in w ws (omega (arith, filter-le t w ws, elem-count w bs (none-emptied size limits xs c f run e w m o)));
       }
 
   -- a group whose page has its blocks out, whatever the groups before it did
@@ -142,7 +141,7 @@ module _ (size : ℕ) (limits : Rules) (xs : List Call) (c h : ℕ) (lim : Limit
         let same : x .page ≡ a .page = Option·some-injective (x .page) (a .page) e in
         let run : x .page .first ≡ pageOf g = eqb-true (x .page .first) (pageOf g) (located-passes l) in
         let d : Decides (pageOf g) (x .page) = subst (Decides (pageOf g)) (sym same) (a .observed) in
-        let f = settle-fate sh small lim h (shape-sound c) l bs in
+        let f = settle-fate sh small lim h l bs in
         let k = counts-observed sh small lim h (length (t .empty)) (length (t .cold)) (destinationIn sh lim t) (gone (x .page)) y (settle-adds sh lim h l bs) f in
         let r = rest (y .class) (awaits-next t (y .class) (pageOf g) (λ r ne. settle-skips sh lim h l bs r (ap (λ v. eqb v r) run ∙ ne)) gs new b) in (
           record { emptied = λ z. f ∙ rw (d .all z); kept = λ z. f ∙ by-cases (gone (x .page)) (λ u. absurd (z (d .only u))) (λ u. rw u) },
@@ -161,28 +160,18 @@ module _ (size : ℕ) (limits : Rules) (xs : List Call) (c h : ℕ) (lim : Limit
       first-goes small g gs new (λ t a. groups-go small gs others t a) t (a .0) (a .1) (locate (startsAt q) t) (located (startsAt q) t) (located-first (startsAt q) t ∙ a .0 .found)
 
 -- ---- a group release that is not refused
-module _ (size : ℕ) (limits : Rules) (xs : List Call) (c h : ℕ) (ws gs fs : List ℕ) (l : c < 64) where
-  abbrev heap : Heap
-  heap = heapAfter size limits xs
-
-  abbrev given : Option ℕ
-  given = offer size h (heap .arena) (answer (shapeOf c) (heap .rules c) (heap .classes c) (Calls.giveChunks h ws gs fs)) .run
-
-  abbrev GoBy : Answer → Type 0
-  GoBy a = GroupsGo (events size limits xs) c (heap .rules c) ws (length (heap .classes c .empty)) (length (heap .classes c .cold)) gs (fatesIn (length gs) a)
-
-  answered : (a : Answer) → a ≡ serve (answer (shapeOf c) (heap .rules c) (heap .classes c) (Calls.giveChunks h ws gs fs)) given .answer → isRefused a ≡ false → GoBy a
-  answered a e u =
-      let lim = heap .rules c in
-      let k = heap .classes c in
-      let t = chunks-tests (shapeOf c) lim k h ws gs fs given (ap isRefused (sym e) ∙ u) in
-      let us = settleChunks (shapeOf c) lim h ws k gs .fates in
-      let z : fatesIn (length gs) a ≡ us = ap (fatesIn (length gs)) (e ∙ tests-fates (shapeOf c) lim k h ws gs fs given t) ∙ subst (λ (n : ℕ). take n (us ++ drop (length gs) fs) ≡ us) (chunks-fated (shapeOf c) lim h ws gs k .many) (take-append-seam us (drop (length gs) fs)) in
-      rw z (groups-go size limits xs c h lim ws (t .single) (small-shape c (lt-ltb c 64 l)) gs (t .pages) k (awaits size limits xs c h lim ws (t .single) gs (t .counts)))
-
-  pub groups-fated : isRefused (step size heap (Calls.releaseBinChunks c h ws gs fs) .answer) ≡ false → GoBy (step size heap (Calls.releaseBinChunks c h ws gs fs) .answer)
-  unfolding step wayOf classCall interact finish
-  groups-fated u =
-      by-cases (badHost h)
-      (λ b. absurd (true≢false (rw b at u)))
-      (λ b. rw (b, lt-ltb c 64 l) (answered _ refl (rw (b, lt-ltb c 64 l) at u)))
+pub groups-fated : (size : ℕ) (limits : Rules) (xs : List Call) (c h : ℕ) (ws gs fs : List ℕ) → c < 64
+    → (let H = heapAfter size limits xs in
+    let a = step size H (Calls.releaseBinChunks c h ws gs fs) .answer in
+    isRefused a ≡ false → GroupsGo (events size limits xs) c (H .rules c) ws (length (H .classes c .empty)) (length (H .classes c .cold)) gs (fatesIn (length gs) a))
+groups-fated size limits xs c h ws gs fs l u =
+    let H = heapAfter size limits xs in
+    let lim = H .rules c in
+    let k = H .classes c in
+    let named : names (Calls.releaseBinChunks c h ws gs fs) ≡ some (record { class = c; request = Calls.giveChunks h ws gs fs }) = rw (lt-ltb c 64 l) in
+    let e = step-served size H (Calls.releaseBinChunks c h ws gs fs) _ named u in
+    let t = chunks-passed c lim k h ws gs fs _ (e .0) (ap isRefused (sym (e .1)) ∙ u) in
+    let us = settleChunks (shapeOf c) lim h ws k gs .fates in
+    let z : fatesIn (length gs) (step size H (Calls.releaseBinChunks c h ws gs fs) .answer) ≡ us
+    = ap (fatesIn (length gs)) (e .1 ∙ t .answer) ∙ subst (λ (n : ℕ). take n (us ++ drop (length gs) fs) ≡ us) (chunks-fated (shapeOf c) lim h ws gs k .many) (take-append-seam us (drop (length gs) fs)) in
+    rw z (groups-go size limits xs c h lim ws (t .single) (small-shape c (lt-ltb c 64 l)) gs (t .pages) k (awaits size limits xs c h lim ws (t .single) gs (t .counts)))

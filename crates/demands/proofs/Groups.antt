@@ -14,8 +14,7 @@ use Rattle.model.specs.Calls as Calls
 use Rattle.model.specs.Calls.{Call, Named, names, isRefused}
 use Rattle.model.specs.Arena.{Arena, Given, given}
 use Rattle.model.specs.Class.{Ask, serve}
-use Rattle.model.specs.Chunks.{answer}
-use Rattle.model.specs.Heap.{offer, finish, interact, classCall}
+use Rattle.model.specs.Heap.{Heap, offer}
 use Rattle.model.specs.History.{heapAfter}
 use Rattle.model.specs.Groups.{isBack, wentBack}
 use Rattle.model.proofs.Theorems as Model
@@ -27,7 +26,7 @@ use Rattle.demands.specs.Start as Starts
 use Rattle.demands.specs.Start.{Start, pages, ruleRows, lent}
 use Rattle.demands.specs.Demands.{GivenInTurn}
 use Rattle.demands.specs.Groups.{GroupsGive}
-use Rattle.demands.proofs.Codes.{zero-of, next-host, next-answer}
+use Rattle.demands.proofs.Codes.{classAsk, zero-exactly, next-host, next-answer}
 use Rattle.demands.proofs.Fits.{Reaches, home, away, chunks-home}
 use Rattle.demands.proofs.Gives.{class-given}
 use Rattle.demands.proofs.Starts.{as-opening}
@@ -45,6 +44,9 @@ offer-home n h a m (home f) = refl
 offer-home n h a m (away p) = absurd p
 
 module _ (n : ℕ) (rows b : List ℕ) (o : Opens n rows b) (xs : List Call) (c h : ℕ) (ws gs fs vs : List ℕ) (l : c < 64) where
+  abbrev heap : Heap
+  heap = heapAfter n (rulesOf rows) xs
+
   abbrev x : Call
   x = Calls.releaseBinChunks c h ws gs fs
 
@@ -52,23 +54,22 @@ module _ (n : ℕ) (rows b : List ℕ) (o : Opens n rows b) (xs : List Call) (c 
   d = record { class = c; request = Calls.giveChunks h ws gs fs }
 
   abbrev q : Ask
-  q = answer (shapeOf c) (heapAfter n (rulesOf rows) xs .rules c) (heapAfter n (rulesOf rows) xs .classes c) (Calls.giveChunks h ws gs fs)
+  q = classAsk heap d
 
   named : names x ≡ some d
   named = rw (lt-ltb c 64 l)
 
   unrefused : next n rows b xs x .answer ≡ Calls.fates vs → next n rows b xs x .code ≡ 0
   unfolding call
-  unrefused e = zero-of (chunksOn (bookAfter n rows b xs) c h ws gs fs .code) _ (ap isRefused e)
+  unrefused e = zero-exactly (chunksOn (bookAfter n rows b xs) c h ws gs fs .code) _ refl .1 (ap isRefused e)
 
   chunks-give : next n rows b xs x .answer ≡ Calls.fates vs → GivenInTurn (shapeOf c .pages) (wentBack gs vs) (loadArena (bookAfter n rows b xs)) (loadArena (next n rows b xs x .book))
-  unfolding classCall interact finish
   chunks-give e =
       let z = unrefused e in
-      let at-home : (a : Arena) → offer n h a q ≡ given a none false = λ a. offer-home n h a (shapeOf c .pages) (chunks-home (shapeOf c) (heapAfter n (rulesOf rows) xs .rules c) (shapeOf c .pages) ⊥ (λ p. p) (heapAfter n (rulesOf rows) xs .classes c) h ws gs fs) in
+      let at-home : (a : Arena) → offer n h a q ≡ given a none false = λ a. offer-home n h a (shapeOf c .pages) (chunks-home (shapeOf c) (heap .rules c) (shapeOf c .pages) ⊥ (λ p. p) (heap .classes c) h ws gs fs) in
       let a = next-answer n rows b o xs x d named (next-host n rows b o xs x d named z) in
-      let observed : serve q none .answer ≡ Calls.fates vs = sym (a ∙ ap (λ (g : Given). serve q (g .run) .answer) (at-home (heapAfter n (rulesOf rows) xs .arena))) ∙ e in
-      let gives : serve q none .gives ≡ wentBack gs vs = Model.groups-give (shapeOf c) (heapAfter n (rulesOf rows) xs .rules c) (heapAfter n (rulesOf rows) xs .classes c) .gives h ws gs fs none ∙ rw observed (past-fates gs vs) in
+      let observed : serve q none .answer ≡ Calls.fates vs = sym (a ∙ ap (λ (g : Given). serve q (g .run) .answer) (at-home (heap .arena))) ∙ e in
+      let gives : serve q none .gives ≡ wentBack gs vs = Model.groups-give (shapeOf c) (heap .rules c) (heap .classes c) .gives h ws gs fs none ∙ rw observed (past-fates gs vs) in
       rw (at-home (loadArena (bookAfter n rows b xs)), gives) at (class-given n rows b o xs x d named z)
 
 pub groups-give : (s : Start) → Starts.Starts s → (xs : List Call) → GroupsGive s xs

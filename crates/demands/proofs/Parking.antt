@@ -216,7 +216,7 @@ parking s o =
           let H = heapAfter (pages s) (rules s) ys in
           let a = next-agrees s o xs x .answer in
           let f = freed-by (pages s) H x c h ws e (good (pages s) (rules s) ys c) (ap isRefused (sym a) ∙ u) in
-          let r = by-row (pages s) (rules s) ys c h (H .rules c) ws (step (pages s) H x .answer) f q v has l m in
+          let r = by-row (pages s) (rules s) ys c f q v has l m in
           let k = ap (λ (z : Rules). z c) (rules-after (pages s) (rules s) ys) in
           (λ z. a ∙ r .0 z ∙ ap (λ (lim : Limits). Calls.fate (fateOf (shapeOf c) (destinationOf (shapeOf c) lim (length (H .classes c .empty)) (length (H .classes c .cold))))) k, λ z. a ∙ r .1 z);
       groupFates = λ xs c h ws gs fs l u.

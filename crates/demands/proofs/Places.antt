@@ -1,12 +1,13 @@
 -- Where a block that is out lies.
---     out-block    it is a block of a run of its class
---     same-page    on every page of the class that begins where that run does, it is out
---     page-of      the page of a small block is its granule / 4,096
---     byte-held    a page with one of its bytes is held by its class
+--     out-block        it is a block of a run of its class
+--     page-of          the page of a small block is its granule / 4,096
+--     reached-class    each class after a history is a `ReachedClass`
+--     lies             in such a class it lies on a page; same-page, on every page that begins where that one does it is out
+--     byte-held        a page with one of its bytes is held by its class
 use Prim.Native.Nat.{ℕ, _+_, _-_, _*_, _/_, _≤_, _<_}
 use native.Mathlib.Omega.{arith}
 use native.Mathlib.Nat.{mul-le-mul-right}
-use mathlib.Core.Bool.{true, false, not, false≢true}
+use mathlib.Core.Bool.{true, not, false≢true}
 use mathlib.Core.List.{List}
 use mathlib.Core.Option.{Option, none, some}
 use mathlib.Core.Path.{_≡_, refl, sym}
@@ -27,6 +28,7 @@ use Rattle.model.specs.Calls.{Call}
 use Rattle.model.specs.Page.{Page, pageGranules, wordOf, wordsFrom, carvedWords, isOut}
 use Rattle.model.specs.Class.{Class}
 use Rattle.model.specs.Release.{Site, locate, outHere}
+use Rattle.model.specs.Heap.{Heap}
 use Rattle.model.specs.History.{events, heapAfter}
 use Rattle.model.specs.Entries.{Entry, Live, HasByte}
 use Rattle.model.specs.Ledger.{heldBy}
@@ -37,6 +39,7 @@ use Rattle.model.proofs.Sites.{Once, GoodClass, SiteLaw, SiteLaws, Tells, outFr
 use Rattle.model.proofs.Accounts.{held-le}
 use Rattle.model.proofs.HeapLaws.{kept}
 use Rattle.model.proofs.Apart.{which}
+use Rattle.model.proofs.Offers.{good, once}
 use Rattle.model.proofs.Theorems.{outs, conserved}
 use Rattle.pages.specs.Stack.{pageAt}
 use Rattle.demands.specs.Returns.{BlockOf}
@@ -64,63 +67,69 @@ module _ (sh : Shape) (ok : Sound sh) where
     byte-on : (b : ℕ) → granuleOf w * granuleBytes ≤ b → b < granuleOf w * granuleBytes + sh .block * granuleBytes → covers (sh .pages) q (b / pageBytes) ≡ 1
     byte-on b f t = covers-in (sh .pages) q (b / pageBytes) (omega (arith, placed .0, f)) (omega (arith, placed .1, t))
 
--- ---- a class
-module _ (sh : Shape) (ok : Sound sh) (s : Class) (good : GoodClass sh s) where
-  pub record Lies (w : ℕ) : Type 0 where
-    pub site : Site
-    pub law : SiteLaw sh s site
-    pub out : isOut sh w (site .page) ≡ true
+-- ---- a class as a history leaves it: its pages are good, no page of the arena is in two of its runs, and none ends past the longest arena
+pub record ReachedClass (c : ℕ) (s : Class) : Type 0 where
+  pub good : GoodClass (shapeOf c) s
+  pub once : Once (shapeOf c) s
+  pub low : (x : Site) → SiteLaw (shapeOf c) s x → x .page .first + shapeOf c .pages ≤ maxPages
 
-  pub lies : (w : ℕ) → outHere sh s w ≡ true → Lies w
+pub record Lies (c : ℕ) (s : Class) (w : ℕ) : Type 0 where
+  pub site : Site
+  pub law : SiteLaw (shapeOf c) s site
+  pub out : isOut (shapeOf c) w (site .page) ≡ true
+
+pub lies-on : {c : ℕ} {s : Class} {w : ℕ} (y : Lies c s w) → BlockOf (shapeOf c) (y .site .page .first) w
+lies-on {c} {w = w} y = out-block (shapeOf c) (shape-sound c) (y .site .page) w (y .law .page) (y .out)
+
+module _ {c : ℕ} {s : Class} (k : ReachedClass c s) where
+  abbrev sh : Shape
+  sh = shapeOf c
+
+  pub lies : (w : ℕ) → outHere sh s w ≡ true → Lies c s w
   unfolding outHere
-  lies w e = go (locate (isOut sh w) s) (locate-law sh s good (isOut sh w)) (locate-tells (isOut sh w) s) e
+  lies w e = go (locate (isOut sh w) s) (locate-law sh s (k .good) (isOut sh w)) (locate-tells (isOut sh w) s) e
     where
-      go : (o : Option Site) → SiteLaws sh s o → Tells (isOut sh w) s o → isSome o ≡ true → Lies w
+      go : (o : Option Site) → SiteLaws sh s o → Tells (isOut sh w) s o → isSome o ≡ true → Lies c s w
       go none l t e = absurd (false≢true e)
       go (some x) l t e = record { site = x; law = l; out = t }
 
-  pub lies-on : (w : ℕ) (y : Lies w) → BlockOf sh (y .site .page .first) w
-  lies-on w y = out-block sh ok (y .site .page) w (y .law .page) (y .out)
-
-  pub same-page : Once sh s → (w : ℕ) (y : Lies w) (x : Site) → SiteLaw sh s x → x .page .first ≡ y .site .page .first → isOut sh w (x .page) ≡ true
-  same-page once w y x law e =
+  pub same-page : {w : ℕ} (y : Lies c s w) (x : Site) → SiteLaw sh s x → x .page .first ≡ y .site .page .first → isOut sh w (x .page) ≡ true
+  same-page {w} y x law e =
       let q = x .page .first in
       let f : outFrom sh q w (y .site .page) ≡ outOf sh w (y .site .page) = rw (eq-eqb (y .site .page .first) q (sym e)) in
-      out-is sh ok w (x .page)
-      (omega (arith, out-first sh ok s x law once q w (eq-eqb q q refl), f, y .law .out-rest (outFrom sh q w), is-out sh ok w (y .site .page) (y .out)))
+      out-is sh (shape-sound c) w (x .page)
+      (omega (arith, out-first sh (shape-sound c) s x law (k .once) q w (eq-eqb q q refl), f, y .law .out-rest (outFrom sh q w), is-out sh (shape-sound c) w (y .site .page) (y .out)))
 
 -- ---- the heap after a history
 module _ (n : ℕ) (small : n ≤ maxPages) (rules : Rules) (xs : List Call) where
-  abbrev class : ℕ → Class
-  class c = heapAfter n rules xs .classes c
+  abbrev heap : Heap
+  heap = heapAfter n rules xs
 
-  held-low : (c y : ℕ) → 1 ≤ heldBy c (heapAfter n rules xs .holder y) → y < maxPages
+  held-low : (c y : ℕ) → 1 ≤ heldBy c (heap .holder y) → y < maxPages
   held-low c y h =
       let k = kept n rules xs in
-      let H = heapAfter n rules xs in
-      by-cases (ltb y (H .arena .frontier))
-      (λ e. omega (arith, ltb-true y (H .arena .frontier) e, k .inv .bound))
-      (λ e. absurd (omega (arith, held-le c (H .holder y), k .inv .one y, above-at (H .arena .frontier) y (ltb-false y (H .arena .frontier) e))))
+      by-cases (ltb y (heap .arena .frontier))
+      (λ e. omega (arith, ltb-true y (heap .arena .frontier) e, k .inv .bound))
+      (λ e. absurd (omega (arith, held-le c (heap .holder y), k .inv .one y, above-at (heap .arena .frontier) y (ltb-false y (heap .arena .frontier) e))))
 
-  pub good-class : (c : ℕ) → GoodClass (shapeOf c) (class c)
-  good-class c = kept n rules xs .inv .good c
-
-  pub once-class : (c : ℕ) → Once (shapeOf c) (class c)
-  once-class c x = omega (arith, kept n rules xs .inv .mine c x, held-le c (heapAfter n rules xs .holder x), kept n rules xs .inv .one x)
-
-  pub low-site : (c : ℕ) (x : Site) → SiteLaw (shapeOf c) (class c) x → x .page .first + shapeOf c .pages ≤ maxPages
-  low-site c x law =
+  pub reached-class : (c : ℕ) → ReachedClass c (heap .classes c)
+  reached-class c =
       let sh = shapeOf c in
       let paged = shape-sound c .paged in
-      let y = x .page .first + sh .pages - 1 in
-      let z = covers-in (sh .pages) (x .page .first) y (omega (arith, paged)) (omega (arith, paged)) in
-      omega (arith, paged, held-low c y (omega (arith, z, law .pages-rest y, kept n rules xs .inv .mine c y)))
+      record {
+        good = good n rules xs c;
+        once = once n rules xs c;
+        low = λ x law.
+            let y = x .page .first + sh .pages - 1 in
+            let z = covers-in (sh .pages) (x .page .first) y (omega (arith, paged)) (omega (arith, paged)) in
+            omega (arith, paged, held-low c y (omega (arith, z, law .pages-rest y, kept n rules xs .inv .mine c y)));
+      }
 
-  pub byte-held : (e : Entry) → Live 0 (events n rules xs) e → (b : ℕ) → HasByte e b → 1 ≤ heldBy (e .class) (heapAfter n rules xs .holder (b / pageBytes))
+  pub byte-held : (e : Entry) → Live 0 (events n rules xs) e → (b : ℕ) → HasByte e b → 1 ≤ heldBy (e .class) (heap .holder (b / pageBytes))
   byte-held e l b h =
       let c = e .class in
-      let sh = shapeOf c in
       let o = outs n rules xs .out c (e .word) .1 (record { entry = e; live = l; class = refl; word = refl }) in
-      let y = lies sh (shape-sound c) (class c) (good-class c) (e .word) o in
-      let z = byte-on sh (shape-sound c) (y .site .page .first) (e .word) (low-site c (y .site) (y .law)) (lies-on sh (shape-sound c) (class c) (good-class c) (e .word) y) b (h .from) (h .to) in
+      let k = reached-class c in
+      let y = lies k (e .word) o in
+      let z = byte-on (shapeOf c) (shape-sound c) (y .site .page .first) (e .word) (k .low (y .site) (y .law)) (lies-on y) b (h .from) (h .to) in
       omega (arith, z, y .law .pages-rest (b / pageBytes), conserved n rules xs .classes c (b / pageBytes))

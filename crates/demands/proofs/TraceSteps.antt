@@ -28,7 +28,7 @@ use Rattle.model.specs.Page.{Page}
 use Rattle.model.specs.Class.{Class, Cold, serve, takeFrom, served, onRun}
 use Rattle.model.specs.Release.{ofKind}
 use Rattle.model.specs.Chunks.{answer}
-use Rattle.model.specs.Heap.{Holder, nobody, direct, class, Heap, isHeld, figures, interact, finish, classCall, directCall, step}
+use Rattle.model.specs.Heap.{Holder, nobody, direct, class, Heap, isHeld, figures, directCall, step}
 use Rattle.model.specs.History.{events, heapAfter}
 use Rattle.model.specs.Entries.{Entry, In, Live, firstByte}
 use Rattle.model.specs.Ledger.{heldBy}
@@ -57,7 +57,7 @@ use Rattle.demands.specs.Run.{Opens, bookAfter, next}
 use Rattle.demands.proofs.Calls.{room}
 use Rattle.demands.proofs.Histories.{next-is, next-agrees, run-represents, book-split}
 use Rattle.demands.proofs.Observed.{out-observed}
-use Rattle.demands.proofs.Codes.{next-class, next-zero}
+use Rattle.demands.proofs.Codes.{next-class, next-exactly}
 use Rattle.demands.proofs.Places.{byte-held}
 use Rattle.demands.proofs.Returns.{list-returns, word-returns}
 use Rattle.demands.proofs.TraceLive.{live, own-byte}
@@ -106,10 +106,6 @@ class-taken : (lim : Limits) (c : ℕ) (s : Class) (g : Option ℕ) → isRefuse
 unfolding answer
 class-taken lim c s g = rw (le-ltb 64 (shapeOf c .batch) (shape-sound c .limited)) (from-taken (shapeOf c) (s .partial) (s .empty) (s .cold) (s .full) g)
 
-call-taken : (n : ℕ) (H : Heap) (c : ℕ) → isRefused (classCall n H c (Calls.take hostMax blank) .answer) ≡ false
-unfolding classCall interact finish
-call-taken n H c = class-taken (H .rules c) c (H .classes c) _
-
 took-blocks : (t : Took) → t .code ≡ 0 → Calls.blocksOf (takeReply t .answer) ≡ Words.blocksOf t
 took-blocks t e = rw e
 
@@ -156,7 +152,7 @@ module _ (n : ℕ) (b : List ℕ) (o : Opens n [] b) (xs : List Call) where
   take-step c h =
       let t = takeNow n book c in
       let i = take-is c h in
-      let f : next n [] b xs (takeOf c) .code ≡ 0 = next-zero n [] b o xs (takeOf c) (taking c) (names-take c h) refl (call-taken n heap c) in
+      let f : next n [] b xs (takeOf c) .code ≡ 0 = next-exactly n [] b o xs (takeOf c) (taking c) (names-take c h) refl .1 (class-taken (heap .rules c) c (heap .classes c) _) in
       let z : t .code ≡ 0 = ap (λ (r : Reply). r .code) (sym i) ∙ f in
       let a : takeReply t .answer ≡ step n heap (takeOf c) .answer = ap (λ (r : Reply). r .answer) (sym i) ∙ next-agrees n [] b o xs (takeOf c) .answer in
       let g = took-blocks t z in
