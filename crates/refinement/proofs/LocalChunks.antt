@@ -3,55 +3,51 @@
 --     group-local    the release keeps to the class's words, and the arena's where it gives
 use Prim.Native.Nat.{ℕ, _+_, _≤_, _<_}
 use native.Mathlib.Omega.{arith}
-use mathlib.Core.Bool.{Bool, true, false, cond, not, _&&_, _||_}
+use mathlib.Core.Bool.{Bool, true, false, not}
 use mathlib.Core.List.{List, [], _∷_, _++_, map}
-use mathlib.Core.Logic.{_⊎_, inl, inr}
+use mathlib.Core.Logic.{_⊎_}
 use mathlib.Core.Option.{Option, none, some, Option·none-ne-some, Option·some-injective}
 use mathlib.Core.Path.{_≡_, refl, sym, ap, _∙_, subst}
 use lib.Dec.{eqb, ltb, leb}
-use lib.ListN.{length, drop}
 use borrow.Author.Tests.{eqb-true, not-true, leb-true, ltb-true}
-use Rattle.words.specs.Word.{chunkKind, pageOf}
+use Rattle.words.specs.Word.{pageOf}
 use Rattle.classes.specs.declared.Shape.{Shape}
 use Rattle.classes.specs.Shape.{smallShape, shapeOf}
 use Rattle.rules.specs.declared.Limits.{Limits}
 use Rattle.fields.specs.Field.{page, first}
 use Rattle.fields.specs.Ranges.{maxPages}
 use Rattle.fields.proofs.Changes.{changes-none}
-use Rattle.facts.specs.Lists.{All, every, elem, distinct, isNil}
+use Rattle.facts.specs.Lists.{All, every, elem, distinct}
 use Rattle.model.specs.Calls.{fates}
 use Rattle.model.specs.Page.{Page, isMedium}
-use Rattle.model.specs.Class.{Class, done}
-use Rattle.model.specs.Release.{Site, Settled, locate, ofKind, outHere, repeats, settle}
+use Rattle.model.specs.Class.{Class}
+use Rattle.model.specs.Release.{Site, Settled, locate, settle}
 use Rattle.model.specs.Chunks as Model
-use Rattle.model.specs.Chunks.{startsAt, chunked, chunksMax}
+use Rattle.model.specs.Chunks.{startsAt}
 use Rattle.model.specs.Heap.{Heap}
 use Rattle.model.specs.Demands.{StaysHome}
-use Rattle.facts.proofs.Bools.{by-cases, and-left, and-right}
+use Rattle.facts.proofs.Bools.{and-left, and-right}
 use Rattle.model.proofs.Find.{pageIn, located-first}
 use Rattle.pages.specs.Runs.{whole}
 use Rattle.pages.specs.Stack.{indexOf, pageAt}
 use Rattle.calls.specs.Out.{startOf, inRunOf, outAt}
 use Rattle.calls.specs.Release.{Released}
 use Rattle.calls.specs.Chunks as Words
-use Rattle.calls.specs.Chunks.{blocksOn, chunksMatch, chunksValid, chunkBackAt, givesOf, settleChunks, giveRuns, chunksNone, releaseChunks}
-use Rattle.refinement.specs.way.Represents.{StateRep, RuleRep, Represents}
+use Rattle.calls.specs.Chunks.{blocksOn, chunkBackAt, givesOf, settleChunks, releaseChunks}
+use Rattle.refinement.specs.way.Represents.{RuleRep, Represents}
 use Rattle.refinement.proofs.Basics.{Setting, setting-kept}
 use Rattle.refinement.proofs.Frames.{ofClass, Only, only-trans, only-rule}
 use Rattle.refinement.proofs.ArenaReached.{Reached}
-use Rattle.refinement.proofs.Book.{setting-of, state-as}
-use Rattle.refinement.proofs.Found.{Located, located, located-passes, Away, found-at, outs-here}
-use Rattle.refinement.proofs.OutTests.{once-here, fault-same}
+use Rattle.refinement.proofs.Found.{Located, located, located-passes, Away, found-at}
 use Rattle.refinement.proofs.Release.{SettledRep, stays, goes, settle-chunk}
-use Rattle.refinement.proofs.LocalGives.{all-local}
-use Rattle.refinement.proofs.ChunkTests.{chunks-same}
 use Rattle.refinement.proofs.Chunks.{every-blocks, once-blocks, settle-skips, Waits, waits-next, blocks-kept, start-kept}
-use Rattle.refinement.proofs.ChunkWhole.{small-shape, all-wait, all-settled, chunks-valid}
+use Rattle.refinement.proofs.ChunkWhole.{small-shape, all-wait, chunks-acts, chunks-tests}
 use Rattle.refinement.proofs.ArenaHolders.{small-class}
+use Rattle.refinement.proofs.Releases.{Stands, setting}
 use Rattle.refinement.proofs.Override.{override, PageIn, get-page}
 use Rattle.refinement.proofs.LocalFill.{Home, home-only}
 use Rattle.refinement.proofs.LocalBack.{overrideReleased, chunk-local}
-use Rattle.refinement.proofs.LocalList.{Roams, home-gives}
+use Rattle.refinement.proofs.LocalGives.{Roams, runs-local}
 
 abbrev pub overrideSettled : (ℕ → Bool) → List ℕ → Words.Settled → Words.Settled
 overrideSettled S d w = record { book = override S (w .book) d; fates = w .fates; gives = w .gives }
@@ -135,18 +131,6 @@ one-page c e x y l u = let z : y < x + 1 = rw e at u in omega arith
 
 module _ {S : ℕ → Bool} (n : ℕ) (hn : n ≤ maxPages) (b : List ℕ) (H : Heap) (R : Represents n b H) (ok : Reached n H) (c : ℕ) (hs : ltb c 64 ≡ true) (hm : Home S n b c (shapeOf c)) (d : List ℕ)
     (H′ : Heap) (R′ : Represents n (override S b d) H′) (ok′ : Reached n H′) (et : H′ .classes c ≡ H .classes c) (h : ℕ) where
-  abbrev hc : ltb c 76 ≡ true
-  hc = small-class c hs
-
-  s : Setting n b c (shapeOf c)
-  s = setting-of n b H R c hc
-
-  s′ : Setting n (override S b d) c (shapeOf c)
-  s′ = setting-of n (override S b d) H′ R′ c hc
-
-  r′ : StateRep n (override S b d) c (shapeOf c) (H .classes c)
-  r′ = state-as R′ hc et
-
   -- the pages of blocks that are out
   home-of : (w : ℕ) → outAt n b c (shapeOf c) w ≡ true → PageIn S (pageAt w)
   unfolding outAt inRunOf
@@ -164,91 +148,14 @@ module _ {S : ℕ → Bool} (n : ℕ) (hn : n ≤ maxPages) (b : List ℕ) (H : 
       let t = outAt n b c (shapeOf c) in
       (home-of w (and-left (t w) (every t ws) o), homes-of ws (and-right (t w) (every t ws) o))
 
-  module _ (ws gs fs : List ℕ) where
-    abbrev fit : Bool
-    fit = distinct (map pageOf gs) && (every (Model.chunkFits (shapeOf c) (H .classes c) ws) gs && every (chunked (shapeOf c) (H .classes c) gs) ws)
-
-    abbrev ends : List ℕ → Words.ChunksReleased
-    ends b =
-        cond (not (chunksMatch b ws gs)) (chunksNone b fs 11)
-        (cond (not (chunksValid n b c (shapeOf c) gs)) (chunksNone b fs 13)
-        (let w = settleChunks b c (shapeOf c) h ws gs in record { code = 0; book = giveRuns (w .book) (shapeOf c .pages) (w .gives); fates = w .fates ++ drop (length gs) fs }))
-
-    reached : (isNil ws || isNil gs) ≡ false → (ltb chunksMax (length gs) || ltb (length fs) (length gs)) ≡ false → (every (ofKind (shapeOf c .kind)) ws && every (ofKind chunkKind) gs) ≡ true
-        → repeats (shapeOf c) (H .classes c) ws ≡ false → every (outHere (shapeOf c) (H .classes c)) ws ≡ true → fit ≡ true
-        → Model.releaseChunks (shapeOf c) (H .rules c) h (H .classes c) ws gs fs
-        ≡ (let x = Model.settleChunks (shapeOf c) (H .rules c) h ws (H .classes c) gs in done (record { class = x .class; answer = fates (x .fates ++ drop (length gs) fs); gives = x .gives }))
-    unfolding Model.releaseChunks
-    reached e₁ e₂ e₃ e₄ e₅ u = rw (e₁, e₂, e₃, e₄, e₅, u)
-
-    module _ (k : every (ofKind (shapeOf c .kind)) ws ≡ true) (o : every (outHere (shapeOf c) (H .classes c)) ws ≡ true) (once : distinct ws ≡ true) where
-      outs : every (outAt n b c (shapeOf c)) ws ≡ true
-      outs = outs-here s hn (H .classes c) (R .classes c hc) ws k ∙ o
-
-      outs′ : every (outAt n (override S b d) c (shapeOf c)) ws ≡ true
-      outs′ = outs-here s′ hn (H .classes c) r′ ws k ∙ o
-
-      fitting : fit ≡ true → every (Model.chunkFits (shapeOf c) (H .classes c) ws) gs ≡ true
-      fitting u =
-          let t₁ = distinct (map pageOf gs) in
-          let t₂ = every (Model.chunkFits (shapeOf c) (H .classes c) ws) gs in
-          let t₃ = every (chunked (shapeOf c) (H .classes c) gs) ws in
-          and-left t₂ t₃ (and-right t₁ (t₂ && t₃) u)
-
-      apart : fit ≡ true → distinct (map pageOf gs) ≡ true
-      apart u = and-left (distinct (map pageOf gs)) (every (Model.chunkFits (shapeOf c) (H .classes c) ws) gs && every (chunked (shapeOf c) (H .classes c) gs) ws) u
-
-      given-local : fit ≡ true → (Model.settleChunks (shapeOf c) (H .rules c) h ws (H .classes c) gs .gives ≡ []) ⊎ Roams S H c
-          → (let w = settleChunks b c (shapeOf c) h ws gs in giveRuns (override S (w .book) d) (shapeOf c .pages) (w .gives) ≡ override S (giveRuns (w .book) (shapeOf c .pages) (w .gives)) d)
-      given-local u (inl z) =
-          let w = all-settled n hn b H R ok c hs ws k outs once h gs (fitting u) (apart u) in
-          rw (w .gives ∙ z)
-      given-local u (inr a) =
-          let w = all-settled n hn b H R ok c hs ws k outs once h gs (fitting u) (apart u) in
-          let x = Model.settleChunks (shapeOf c) (H .rules c) h ws (H .classes c) gs in
-          rw (w .gives) (all-local n b H R ok c hc (settleChunks b c (shapeOf c) h ws gs .book) (w .only) (x .class) (w .pages) (w .rep) (a .arena) d (a .kin) (x .gives) (w .named))
-
-      acts-local : fit ≡ true → (Model.settleChunks (shapeOf c) (H .rules c) h ws (H .classes c) gs .gives ≡ []) ⊎ Roams S H c
-          → (let w = settleChunks b c (shapeOf c) h ws gs in let w′ = settleChunks (override S b d) c (shapeOf c) h ws gs in
-          giveRuns (w′ .book) (shapeOf c .pages) (w′ .gives) ≡ override S (giveRuns (w .book) (shapeOf c .pages) (w .gives)) d)
-      acts-local u a =
-          rw (chunks-in S hn (H .rules c) (small-shape c hs) h ws once b s (R .rules c hc) d (homes-of ws outs) gs (apart u) b (H .classes c) [] (changes-none (ofClass b c) b) hm (R .classes c hc)
-          (all-wait n hn b H R ok c hs ws k outs once gs (fitting u)))
-          (given-local u a)
-
-      ends-local : (fit ≡ true → (Model.settleChunks (shapeOf c) (H .rules c) h ws (H .classes c) gs .gives ≡ []) ⊎ Roams S H c) → ends (override S b d) .book ≡ override S (ends b .book) d
-      ends-local a =
-          rw (chunks-same s hn (H .classes c) (R .classes c hc) ws k outs gs, chunks-same s′ hn (H .classes c) r′ ws k outs′ gs)
-          (by-cases fit
-          (λ u. rw (u, chunks-valid n hn b H R ok c hs ws k outs once h gs (fitting u) (apart u), valid′ u) (acts-local u (a u)))
-          (λ u. rw u))
-        where
-          valid′ : fit ≡ true → chunksValid n (override S b d) c (shapeOf c) gs ≡ true
-          valid′ u = chunks-valid n hn (override S b d) H′ R′ ok′ c hs ws k outs′ once h gs (rw et (fitting u)) (apart u)
-
-    pub group-local : StaysHome (Model.releaseChunks (shapeOf c) (H .rules c) h (H .classes c) ws gs fs) ⊎ Roams S H c
-        → releaseChunks n (override S b d) c (shapeOf c) h ws gs fs .book ≡ override S (releaseChunks n b c (shapeOf c) h ws gs fs .book) d
-    unfolding releaseChunks
-    group-local a =
-        let sh = shapeOf c in
-        let t = H .classes c in
-        let k₁ = every (ofKind (shapeOf c .kind)) ws in
-        let k₂ = every (ofKind chunkKind) gs in
-        by-cases (isNil ws || isNil gs) (λ e. rw e)
-        (λ e₁. by-cases (ltb chunksMax (length gs) || ltb (length fs) (length gs)) (λ e. rw (e₁, e))
-        (λ e₂. by-cases (every (ofKind (shapeOf c .kind)) ws && every (ofKind chunkKind) gs)
-        (λ e₃. let k = and-left k₁ k₂ e₃ in
-        rw (e₁, e₂, e₃, fault-same s hn (H .classes c) (R .classes c hc) ws k, fault-same s′ hn (H .classes c) r′ ws k)
-        (by-cases (repeats (shapeOf c) (H .classes c) ws) (λ e₄. rw e₄)
-        (λ e₄. by-cases (every (outHere (shapeOf c) (H .classes c)) ws)
-        (λ e₅. rw (e₄, e₅) (ends-local k e₅ (once-here sh t ws e₄ e₅) (allowed e₁ e₂ e₃ e₄ e₅ a)))
-        (λ e₅. rw (e₄, e₅)))))
-        (λ e₃. rw (e₁, e₂, e₃))))
-      where
-        allowed : (isNil ws || isNil gs) ≡ false → (ltb chunksMax (length gs) || ltb (length fs) (length gs)) ≡ false → (every (ofKind (shapeOf c .kind)) ws && every (ofKind chunkKind) gs) ≡ true
-            → repeats (shapeOf c) (H .classes c) ws ≡ false → every (outHere (shapeOf c) (H .classes c)) ws ≡ true → StaysHome (Model.releaseChunks (shapeOf c) (H .rules c) h (H .classes c) ws gs fs) ⊎ Roams S H c
-            → fit ≡ true → (Model.settleChunks (shapeOf c) (H .rules c) h ws (H .classes c) gs .gives ≡ []) ⊎ Roams S H c
-        allowed e₁ e₂ e₃ e₄ e₅ (inl z) u =
-            let x = Model.settleChunks (shapeOf c) (H .rules c) h ws (H .classes c) gs in
-            inl (home-gives (record { class = x .class; answer = fates (x .fates ++ drop (length gs) fs); gives = x .gives }) z (reached e₁ e₂ e₃ e₄ e₅ u))
-        allowed e₁ e₂ e₃ e₄ e₅ (inr z) u = inr z
+  pub group-local : (ws gs fs : List ℕ) → StaysHome (Model.releaseChunks (shapeOf c) (H .rules c) h (H .classes c) ws gs fs) ⊎ Roams S H c
+      → releaseChunks n (override S b d) c (shapeOf c) h ws gs fs .book ≡ override S (releaseChunks n b c (shapeOf c) h ws gs fs .book) d
+  group-local ws gs fs =
+      let hc = small-class c hs in
+      let B : Stands n b c (H .classes c) = record { short = hn; row = small-class c hs; heap = H; represents = R; reached = ok; state = refl } in
+      chunks-tests h B (record { short = hn; row = hc; heap = H′; represents = R′; reached = ok′; state = et }) hs (H .rules c) ws gs fs
+      (λ w w′ q. StaysHome q ⊎ Roams S H c → w′ .book ≡ override S (w .book) d) (λ k u a. refl)
+      (λ k o once fits apart a.
+      rw (chunks-in S hn (H .rules c) (small-shape c hs) h ws once b (setting B) (R .rules c hc) d (homes-of ws o) gs apart b (H .classes c) [] (changes-none (ofClass b c) b) hm (R .classes c hc)
+      (all-wait B hs ws k o once gs fits))
+      (runs-local B d (chunks-acts B hs ws k o once h gs fits apart fs) a))

@@ -14,7 +14,6 @@ use borrow.Author.Tests.{eqb-false}
 use Rattle.classes.specs.Shape.{shapeOf}
 use Rattle.classes.proofs.Shapes.{shape-sound}
 use Rattle.fields.specs.Ranges.{maxPages}
-use Rattle.model.specs.Calls as Calls
 use Rattle.model.specs.Calls.{Request, take, giveBack, giveChunks}
 use Rattle.model.specs.Page.{Page}
 use Rattle.model.specs.Class.{Ask, lists, takeFrom}
@@ -41,7 +40,8 @@ use Rattle.refinement.proofs.Override.{override, override-same, PageIn,
 use Rattle.refinement.proofs.LocalFill.{Home}
 use Rattle.refinement.proofs.LocalTake.{take-local}
 use Rattle.refinement.proofs.LocalNew.{new-local}
-use Rattle.refinement.proofs.LocalList.{Roams, list-local}
+use Rattle.refinement.proofs.LocalGives.{Roams}
+use Rattle.refinement.proofs.LocalList.{list-local}
 use Rattle.refinement.proofs.LocalChunks.{group-local}
 use Rattle.refinement.proofs.Lengths.{Ours, reply-long}
 use Rattle.refinement.specs.way.Footprint.{footprint, off}
