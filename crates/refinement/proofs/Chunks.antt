@@ -106,12 +106,12 @@ unfolding Model.blocksOn
 once-blocks sh ws once p w = omega (arith, filter-le (λ w. isOut sh w p) w ws, distinct-count w ws once)
 
 -- a chunk's blocks go by where the runs begin
-pub blocks-kept : (b b′ : List ℕ) → ((w : ℕ) → startOf b′ w ≡ startOf b w) → (ws : List ℕ) (q : ℕ) → blocksOn b′ ws q ≡ blocksOn b ws q
+blocks-kept : (b b′ : List ℕ) → ((w : ℕ) → startOf b′ w ≡ startOf b w) → (ws : List ℕ) (q : ℕ) → blocksOn b′ ws q ≡ blocksOn b ws q
 unfolding blocksOn
 blocks-kept b b′ k [] q = refl
 blocks-kept b b′ k (w ∷ ws) q = rw (k w, blocks-kept b b′ k ws q)
 
-pub start-kept : (c : ℕ) {b b′ : List ℕ} → Only c b b′ → (w : ℕ) → startOf b′ w ≡ startOf b w
+start-kept : (c : ℕ) {b b′ : List ℕ} → Only c b b′ → (w : ℕ) → startOf b′ w ≡ startOf b w
 unfolding startOf
 start-kept c h w = only-owns c h .starts _
 
@@ -122,7 +122,7 @@ pub record Waits (sh : Shape) (ws b₀ : List ℕ) (t : Class) (g : ℕ) : Type 
   pub blocks : Model.blocksOn sh ws page ≡ blocksOn b₀ ws (pageOf g)
   pub all : returnsAll b₀ g ≡ noneOut sh (returned (Model.blocksOn sh ws page) page)
 
-pub waits-next : (sh : Shape) (ws b₀ : List ℕ) (t t′ : Class) (q : ℕ) → ((r : ℕ) → eqb q r ≡ false → firstOf (startsAt r) t′ ≡ firstOf (startsAt r) t)
+waits-next : (sh : Shape) (ws b₀ : List ℕ) (t t′ : Class) (q : ℕ) → ((r : ℕ) → eqb q r ≡ false → firstOf (startsAt r) t′ ≡ firstOf (startsAt r) t)
     → (gs : List ℕ) → elem q (map pageOf gs) ≡ false → All (Waits sh ws b₀ t) gs → All (Waits sh ws b₀ t′) gs
 waits-next sh ws b₀ t t′ q k [] e a = tt
 waits-next sh ws b₀ t t′ q k (g ∷ gs) e a =

@@ -6,13 +6,13 @@
 --     release-after     the same after any history
 use Prim.Native.Nat.{ℕ, _≤_}
 use native.Mathlib.Omega.{arith}
-use mathlib.Core.Bool.{true, false, cond, not}
+use mathlib.Core.Bool.{Bool, true, false, cond, not}
 use mathlib.Core.List.{List, [], _∷_, map}
 use mathlib.Core.Option.{some}
 use mathlib.Core.Path.{_≡_, refl, sym, ap, _∙_}
 use lib.Dec.{eqb, ltb}
 use lib.ListN.{length}
-use borrow.Author.Tests.{eqb-true, ne-eqb, not-false}
+use borrow.Author.Tests.{ne-eqb, not-false}
 use Rattle.facts.specs.Lists.{every, distinct, count}
 use Rattle.facts.proofs.Bools.{by-cases, and-left}
 use Rattle.classes.specs.Shape.{shapeOf}
@@ -21,7 +21,7 @@ use Rattle.rules.specs.Rules.{Rules}
 use Rattle.fields.specs.Ranges.{maxPages}
 use Rattle.model.specs.Calls as Calls
 use Rattle.model.specs.Calls.{Call, fate}
-use Rattle.model.specs.Page.{isOut}
+use Rattle.model.specs.Page.{Page, isOut}
 use Rattle.model.specs.Class.{Class, Result, Ask, done, refuse}
 use Rattle.model.specs.Release.{Site, Settled, ofKind, onPage, settle, releaseList}
 use Rattle.model.specs.Chunks.{answer}
@@ -35,11 +35,10 @@ use Rattle.refinement.specs.way.Represents.{Represents}
 use Rattle.refinement.specs.Direct.{Agrees}
 use Rattle.refinement.specs.Releases.{listReply}
 use Rattle.refinement.proofs.ArenaReached.{Reached, reached-after}
-use Rattle.refinement.proofs.Found.{Located, located-passes, At, found-at, placed-rep, same-page, same-pages}
+use Rattle.refinement.proofs.Found.{Located, At, found-at, placed-rep, same-pages, start-at, site-of}
 use Rattle.refinement.proofs.Returned.{return-room}
 use Rattle.refinement.proofs.Release.{SettledRep, stays, goes, settle-list}
 use Rattle.refinement.proofs.ReleaseValid.{release-valid}
-use Rattle.refinement.proofs.ChunkTests.{site-of}
 use Rattle.refinement.proofs.Releases.{Stands, setting, state-rep, Refusal, tested, past-ten, Ends, denied, did, ends-agree}
 
 -- what a release comes to that passes
@@ -49,41 +48,27 @@ listAct b c h x ws = lastStep (shapeOf c) (x .page .first) (giveBackAt b c (shap
 abbrev pub listResult : Settled → Result
 listResult y = record { class = y .class; answer = fate (y .fate); gives = y .gives }
 
-module _ {n c : ℕ} {t : Class} (h : ℕ) {b : List ℕ} (B : Stands n b c t) where
-  -- from number 11 on, where the list's first word names page q, which is the page of site x
-  OnPage : ℕ → Site → List ℕ → Type 0
-  OnPage q x ws =
-      cond (not (every (λ v. eqb (startOf b v) q) ws)) (releasedNone b 11)
-      (cond (not (releaseValid n b c (shapeOf c) (length ws) q)) (releasedNone b 13)
-      (lastStep (shapeOf c) q (giveBackAt b c (shapeOf c) h q (map (indexOf (shapeOf c) q) ws))))
-      ≡ cond (every (λ v. isOut (shapeOf c) v (x .page)) ws) (listAct b c h x ws) (releasedNone b 11)
-
-  at-page : {x : Site} → At n b c (shapeOf c) [] x → (q : ℕ) → q ≡ x .page .first → (ws : List ℕ) → every (ofKind (shapeOf c .kind)) ws ≡ true → every (outAt n b c (shapeOf c)) ws ≡ true
-      → distinct ws ≡ true → OnPage q x ws
-  unfolding OnPage
-  at-page {x} a q e ws k o once =
-      let same = same-pages (setting B) (B .short) (placed-rep (a .placed)) ws k o in
-      by-cases (every (λ v. isOut (shapeOf c) v (x .page)) ws)
-      (λ u. let room = return-room (setting B) (B .short) (placed-rep (a .placed)) ws u (λ v. distinct-count v ws once) in
-      rw (e, sym same ∙ u, u, release-valid n b (B .heap) (B .represents) (B .reached) c (setting B) (length ws) (omega arith) (a .placed)))
-      (λ u. rw (e, sym same ∙ u, u))
-
-  at-site : (w : ℕ) (ws : List ℕ) {x : Site} → Located (isOut (shapeOf c) w) t (some x) → every (ofKind (shapeOf c .kind)) (w ∷ ws) ≡ true → every (outAt n b c (shapeOf c)) (w ∷ ws) ≡ true
-      → distinct (w ∷ ws) ≡ true → OnPage (startOf b w) x (w ∷ ws)
-  at-site w ws {x} y k o once =
-      let sh = shapeOf c in
-      let a = found-at {zs = []} (state-rep B) y in
-      at-page a (startOf b w)
-      (eqb-true (startOf b w) (x .page .first)
-      (sym (same-page (setting B) (B .short) (placed-rep (a .placed)) w (and-left (ofKind (sh .kind) w) (every (ofKind (sh .kind)) ws) k) (and-left (outAt n b c sh w) (every (outAt n b c sh) ws) o)) ∙ located-passes y))
-      (w ∷ ws) k o once
+-- from number 11 on: the list's first word names page q, and the model finds that page at site x
+at-page : {n c : ℕ} {t : Class} (h : ℕ) {b : List ℕ} (B : Stands n b c t) {f : Page → Bool} {x : Site} → Located f t (some x) → (q : ℕ) → q ≡ x .page .first
+    → (ws : List ℕ) → every (ofKind (shapeOf c .kind)) ws ≡ true → every (outAt n b c (shapeOf c)) ws ≡ true → distinct ws ≡ true
+    → cond (not (every (λ v. eqb (startOf b v) q) ws)) (releasedNone b 11)
+    (cond (not (releaseValid n b c (shapeOf c) (length ws) q)) (releasedNone b 13)
+    (lastStep (shapeOf c) q (giveBackAt b c (shapeOf c) h q (map (indexOf (shapeOf c) q) ws))))
+    ≡ cond (every (λ v. isOut (shapeOf c) v (x .page)) ws) (listAct b c h x ws) (releasedNone b 11)
+at-page {n} {c} h {b} B {x = x} y q e ws k o once =
+    let p = found-at {zs = []} (state-rep B) y .placed in
+    let same = same-pages (setting B) (B .short) (placed-rep p) ws k o in
+    by-cases (every (λ v. isOut (shapeOf c) v (x .page)) ws)
+    (λ u. let room = return-room (setting B) (B .short) (placed-rep p) ws u (λ v. distinct-count v ws once) in
+    rw (e, sym same ∙ u, u, release-valid n b (B .heap) (B .represents) (B .reached) c (setting B) (length ws) (omega arith) p))
+    (λ u. rw (e, sym same ∙ u, u))
 
 module _ {n c : ℕ} {t : Class} (h : ℕ) {b b′ : List ℕ} (B : Stands n b c t) (B′ : Stands n b′ c t) (lim : Limits) (P : Released → Released → Ask → Type 0)
     (none : (k : ℕ) → Refusal k → P (releasedNone b k) (releasedNone b′ k) (refuse t k)) where
   pub list-tests : (ws : List ℕ) → ((x : Site) → At n b c (shapeOf c) [] x → every (λ v. isOut (shapeOf c) v (x .page)) ws ≡ true → ((v : ℕ) → count v ws ≤ 1)
       → P (listAct b c h x ws) (listAct b′ c h x ws) (done (listResult (settle (shapeOf c) lim h false ws x))))
       → P (releaseBlocks n b c (shapeOf c) h ws) (releaseBlocks n b′ c (shapeOf c) h ws) (releaseList (shapeOf c) lim h t ws)
-  unfolding releaseBlocks releaseList onPage OnPage
+  unfolding releaseBlocks releaseList onPage
   list-tests [] f = none 7 refl
   list-tests (w ∷ ws) f =
       let sh = shapeOf c in
@@ -91,8 +76,10 @@ module _ {n c : ℕ} {t : Class} (h : ℕ) {b b′ : List ℕ} (B : Stands n b c
       tested B B′ releasedNone P none (not (every (ofKind (sh .kind)) us)) 9 refl
       (λ e. let k = not-false (every (ofKind (sh .kind)) us) e in
       past-ten B B′ releasedNone P none us k
-      (λ o o′ once. let x = site-of (setting B) (B .short) t (state-rep B) w (and-left (ofKind (sh .kind) w) (every (ofKind (sh .kind)) ws) k) (and-left (outAt n b c sh w) (every (outAt n b c sh) ws) o) in
-      rw (at-site h B w ws (x .found) k o once, at-site h B′ w ws (x .found) k o′ once, x .is)
+      (λ o o′ once. let k₁ = and-left (ofKind (sh .kind) w) (every (ofKind (sh .kind)) ws) k in
+      let x = site-of (setting B) (B .short) t (state-rep B) w k₁ (and-left (outAt n b c sh w) (every (outAt n b c sh) ws) o) in
+      let start′ = start-at (setting B′) (B .short) t (state-rep B′) w (x .found) k₁ (and-left (outAt n b′ c sh w) (every (outAt n b′ c sh) ws) o′) in
+      rw (at-page h B (x .found) (startOf b w) (x .start) us k o once, at-page h B′ (x .found) (startOf b′ w) start′ us k o′ once, x .is)
       (by-cases (every (λ v. isOut sh v (x .site .page)) us)
       (λ u. rw u (f (x .site) (found-at (state-rep B) (x .found)) u (λ v. distinct-count v us once)))
       (λ u. rw u (none 11 refl)))))
