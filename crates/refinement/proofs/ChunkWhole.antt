@@ -42,15 +42,16 @@ use Rattle.refinement.proofs.Frames.{ofClass}
 use Rattle.refinement.proofs.ArenaReached.{Reached, reached-after}
 use Rattle.refinement.proofs.ArenaValid.{give-passes}
 use Rattle.refinement.proofs.Draw.{free-length}
+use Rattle.refinement.proofs.Book.{Stands, stands, setting, state-rep}
 use Rattle.refinement.proofs.Found.{Located, located, located-passes, At, found-at, placed-rep}
 use Rattle.refinement.proofs.Returned.{none-count, return-only, return-rep, return-room}
 use Rattle.refinement.proofs.Release.{length-firsts}
 use Rattle.refinement.proofs.ReleaseValid.{row-valid, page-valid, frontier-valid}
-use Rattle.refinement.proofs.ReleaseGives.{all-held}
+use Rattle.refinement.proofs.ReleaseGives.{Acts, all-held}
 use Rattle.refinement.proofs.ChunkTests.{same-blocks, chunks-same}
 use Rattle.refinement.proofs.Chunks.{every-blocks, once-blocks, Waits, ChunksRep, chunks-rep}
 use Rattle.refinement.proofs.ArenaHolders.{small-class}
-use Rattle.refinement.proofs.Releases.{Stands, setting, state-rep, Refusal, tested, past-ten, Acts, Ends, denied, did, ends-agree}
+use Rattle.refinement.proofs.Releases.{Refusal, tested, past-ten, Ends, denied, did, ends-agree}
 
 pub small-shape : (c : ℕ) → ltb c 64 ≡ true → isMedium (shapeOf c) ≡ false
 unfolding shapeOf smallShape
@@ -65,7 +66,7 @@ chunksAct b c h ws gs fs =
 abbrev pub chunksResult : List ℕ → List ℕ → AllSettled → Result
 chunksResult gs fs x = record { class = x .class; answer = fates (x .fates ++ drop (length gs) fs); gives = x .gives }
 
-module _ {n : ℕ} {b : List ℕ} {c : ℕ} {t : Class} (B : Stands n b c t) (hs : ltb c 64 ≡ true) where
+module _ {n : ℕ} {b : List ℕ} {c : ℕ} {t : Class} (hn : n ≤ maxPages) (B : Stands n b c t) (hs : ltb c 64 ≡ true) where
   -- ---- the list has passed number 10, and the chunks number 11
   module _ (ws : List ℕ) (k : every (ofKind (shapeOf c .kind)) ws ≡ true) (o : every (outAt n b c (shapeOf c)) ws ≡ true) (once : distinct ws ≡ true) where
     -- a chunk that fits
@@ -89,7 +90,7 @@ module _ {n : ℕ} {b : List ℕ} {c : ℕ} {t : Class} (B : Stands n b c t) (hs
     module _ (g : ℕ) (f : Fits g) where
       room : length (f .site .page .free) + countOf g ≤ f .site .page .carved
       room =
-          omega (arith, f .number, return-room (setting B) (B .short) (placed-rep (f .at .placed)) (Model.blocksOn (shapeOf c) ws (f .site .page)) (every-blocks (shapeOf c) ws (f .site .page)) (once-blocks (shapeOf c) ws once (f .site .page)))
+          omega (arith, f .number, return-room (setting B) hn (placed-rep (f .at .placed)) (Model.blocksOn (shapeOf c) ws (f .site .page)) (every-blocks (shapeOf c) ws (f .site .page)) (once-blocks (shapeOf c) ws once (f .site .page)))
 
       valid : pageValid b (shapeOf c) (countOf g) (pageOf g) ≡ true
       valid = subst (λ (q : ℕ). pageValid b (shapeOf c) (countOf g) q ≡ true) (f .here) (page-valid (setting B) (countOf g) room (f .at .placed))
@@ -102,11 +103,11 @@ module _ {n : ℕ} {b : List ℕ} {c : ℕ} {t : Class} (B : Stands n b c t) (hs
           let r = placed-rep (f .at .placed) in
           let outs = every-blocks (shapeOf c) ws (f .site .page) in
           let few = once-blocks (shapeOf c) ws once (f .site .page) in
-          let s₁ = setting-kept _ (return-only (setting B) (B .short) r bs outs few .long) (setting B) in
+          let s₁ = setting-kept _ (return-only (setting B) hn r bs outs few .long) (setting B) in
           let h : get b (page free (pageOf g)) ≡ length (f .site .page .free) = ap (λ q. get b (page free q)) (sym (f .here)) ∙ r .holds .height ∙ sym (free-length r) in
           let v : get b (page carved (pageOf g)) ≡ f .site .page .carved = ap (λ q. get b (page carved q)) (sym (f .here)) ∙ r .holds .ready in
           rw (h, v) (turned (length (p .free)) (countOf g) (p .carved) (length (bs ++ p .free)) (omega (arith, length-append bs (p .free), f .number))
-          ∙ sym (none-count s₁ (B .short) (return-rep (setting B) (B .short) r bs outs few)))
+          ∙ sym (none-count s₁ hn (return-rep (setting B) hn r bs outs few)))
         where
           turned : (a d e m : ℕ) → a + d ≡ m → eqb (a + d) e ≡ eqb e m
           turned a d e m z =
@@ -116,7 +117,7 @@ module _ {n : ℕ} {b : List ℕ} {c : ℕ} {t : Class} (B : Stands n b c t) (hs
       waits = record {
         page = f .site .page;
         found = sym (located-first (startsAt (pageOf g)) t) ∙ f .found;
-        blocks = same-blocks (setting B) (B .short) (placed-rep (f .at .placed)) ws k o ∙ ap (blocksOn b ws) (f .here);
+        blocks = same-blocks (setting B) hn (placed-rep (f .at .placed)) ws k o ∙ ap (blocksOn b ws) (f .here);
         all = all-back;
       }
 
@@ -139,18 +140,19 @@ module _ {n : ℕ} {b : List ℕ} {c : ℕ} {t : Class} (B : Stands n b c t) (hs
     module _ (h : ℕ) (gs : List ℕ) (fits : every (Model.chunkFits (shapeOf c) t ws) gs ≡ true) (apart : distinct (map pageOf gs) ≡ true) where
       pub all-settled : ChunksRep n c (shapeOf c) b [] (settleChunks b c (shapeOf c) h ws gs) (Model.settleChunks (shapeOf c) (B .heap .rules c) h ws t gs)
           (runsGiven b (shapeOf c) (B .heap .rules c) gs (length (t .empty)) (length (t .cold)))
-      all-settled = chunks-rep (B .short) (B .heap .rules c) (small-shape c hs) h ws once b (setting B) (B .represents .rules c (B .row)) gs apart b t [] (changes-none (ofClass b c) b) (state-rep B) (all-wait gs fits)
+      all-settled = chunks-rep hn (B .heap .rules c) (small-shape c hs) h ws once b (setting B) (B .represents .rules c (B .row)) gs apart b t [] (changes-none (ofClass b c) b) (state-rep B) (all-wait gs fits)
 
       pub chunks-acts : (fs : List ℕ)
           → (let w = settleChunks b c (shapeOf c) h ws gs in Acts n b c (w .book) (w .gives) (chunksResult gs fs (Model.settleChunks (shapeOf c) (B .heap .rules c) h ws t gs)))
       chunks-acts fs = let w = all-settled in record { pages = w .pages; rep = w .rep; only = w .only; gives = w .gives; named = w .named }
 
       given-held : pagesGiven b c (shapeOf c) gs ≤ heldPages n (B .heap)
+      unfolding chunks-acts
       given-held =
           let r = state-rep B in
           let w = all-settled in
           rw (B .represents .rules c (B .row) .same, r .store .number, length-firsts (reused (shapeOf c)) (t .empty), r .beside .number, length-firsts (thawed (shapeOf c)) (t .cold), w .number)
-          (all-held n b (B .heap) (B .represents) (B .reached) c (B .row) (settleChunks b c (shapeOf c) h ws gs .book) (w .only) (Model.settleChunks (shapeOf c) (B .heap .rules c) h ws t gs .class) (w .pages) (w .rep))
+          (all-held B (chunks-acts []))
 
       pub chunks-valid : chunksValid n b c (shapeOf c) gs ≡ true
       unfolding chunksValid
@@ -164,7 +166,7 @@ module _ {n : ℕ} {b : List ℕ} {c : ℕ} {t : Class} (B : Stands n b c t) (hs
           (by-cases (eqb (pagesGiven b c (shapeOf c) gs) 0) (λ e. rw e) (λ e. rw e))
 
 -- ---- the tests, in their order
-module _ {n c : ℕ} {t : Class} (h : ℕ) {b b′ : List ℕ} (B : Stands n b c t) (B′ : Stands n b′ c t) (hs : ltb c 64 ≡ true) (lim : Limits) (ws gs fs : List ℕ)
+module _ {n c : ℕ} {t : Class} (hn : n ≤ maxPages) (h : ℕ) {b b′ : List ℕ} (B : Stands n b c t) (B′ : Stands n b′ c t) (hs : ltb c 64 ≡ true) (lim : Limits) (ws gs fs : List ℕ)
     (P : ChunksReleased → ChunksReleased → Ask → Type 0) (none : (k : ℕ) → Refusal k → P (chunksNone b fs k) (chunksNone b′ fs k) (refuse t k)) where
   pub chunks-tests : (every (ofKind (shapeOf c .kind)) ws ≡ true → every (outAt n b c (shapeOf c)) ws ≡ true → distinct ws ≡ true → every (Model.chunkFits (shapeOf c) t ws) gs ≡ true → distinct (map pageOf gs) ≡ true
       → P (chunksAct b c h ws gs fs) (chunksAct b′ c h ws gs fs) (done (chunksResult gs fs (Model.settleChunks (shapeOf c) lim h ws t gs))))
@@ -176,29 +178,31 @@ module _ {n c : ℕ} {t : Class} (h : ℕ) {b b′ : List ℕ} (B : Stands n b c
       let t₁ = distinct (map pageOf gs) in
       let t₂ = every (Model.chunkFits (shapeOf c) t ws) gs in
       let t₃ = every (chunked (shapeOf c) t gs) ws in
-      tested B B′ (λ b. chunksNone b fs) P none (isNil ws || isNil gs) 7 refl
-      (λ e. tested B B′ (λ b. chunksNone b fs) P none (ltb chunksMax (length gs) || ltb (length fs) (length gs)) 8 refl
-      (λ e. tested B B′ (λ b. chunksNone b fs) P none (not (k₁ && k₂)) 9 refl
+      tested hn B B′ (λ b. chunksNone b fs) P none (isNil ws || isNil gs) 7 refl
+      (λ e. tested hn B B′ (λ b. chunksNone b fs) P none (ltb chunksMax (length gs) || ltb (length fs) (length gs)) 8 refl
+      (λ e. tested hn B B′ (λ b. chunksNone b fs) P none (not (k₁ && k₂)) 9 refl
       (λ e. let k = and-left k₁ k₂ (not-false (k₁ && k₂) e) in
-      past-ten B B′ (λ b. chunksNone b fs) P none ws k
-      (λ o o′ once. rw (chunks-same (setting B) (B .short) t (state-rep B) ws k o gs, chunks-same (setting B′) (B .short) t (state-rep B′) ws k o′ gs)
-      (tested B B′ (λ b. chunksNone b fs) P none (not (t₁ && (t₂ && t₃))) 11 refl
+      past-ten hn B B′ (λ b. chunksNone b fs) P none ws k
+      (λ o o′ once. rw (chunks-same (setting B) hn t (state-rep B) ws k o gs, chunks-same (setting B′) hn t (state-rep B′) ws k o′ gs)
+      (tested hn B B′ (λ b. chunksNone b fs) P none (not (t₁ && (t₂ && t₃))) 11 refl
       (λ e. let u = not-false (t₁ && (t₂ && t₃)) e in
       let fits = and-left t₂ t₃ (and-right t₁ (t₂ && t₃) u) in
       let apart = and-left t₁ (t₂ && t₃) u in
-      rw (chunks-valid B hs ws k o once h gs fits apart, chunks-valid B′ hs ws k o′ once h gs fits apart) (f k o once fits apart)))))))
+      rw (chunks-valid hn B hs ws k o once h gs fits apart, chunks-valid hn B′ hs ws k o′ once h gs fits apart) (f k o once fits apart)))))))
 
 -- ---- the whole call
 module _ (n : ℕ) (hn : n ≤ maxPages) (b : List ℕ) (H : Heap) (R : Represents n b H) (ok : Reached n H) (c : ℕ) (hs : ltb c 64 ≡ true) (h : ℕ) (ws gs fs : List ℕ) where
+  abbrev B : Stands n b c (H .classes c)
+  B = stands R ok (small-class c hs) refl
+
   pub chunks-ends : Ends n b c (H .classes c) (chunksReply (releaseChunks n b c (shapeOf c) h ws gs fs)) (Model.releaseChunks (shapeOf c) (H .rules c) h (H .classes c) ws gs fs)
   chunks-ends =
-      let B : Stands n b c (H .classes c) = record { short = hn; row = small-class c hs; heap = H; represents = R; reached = ok; state = refl } in
-      chunks-tests h B B hs (H .rules c) ws gs fs (λ w w′ q. Ends n b c (H .classes c) (chunksReply w) q) (λ k u. denied k (fates fs) u)
-      (λ k o once fits apart. rw (all-settled B hs ws k o once h gs fits apart .fates) (did (chunks-acts B hs ws k o once h gs fits apart fs)))
+      chunks-tests hn h B B hs (H .rules c) ws gs fs (λ w w′ q. Ends n b c (H .classes c) (chunksReply w) q) (λ k u. denied k (fates fs) u)
+      (λ k o once fits apart. rw (all-settled hn B hs ws k o once h gs fits apart .fates) (did (chunks-acts hn B hs ws k o once h gs fits apart fs)))
 
   pub chunks-whole : Agrees (Represents n) (chunksReply (releaseChunks n b c (shapeOf c) h ws gs fs)) (classCall n H c (Calls.giveChunks h ws gs fs))
   unfolding classCall answer
-  chunks-whole = ends-agree n b H R ok c (small-class c hs) h chunks-ends
+  chunks-whole = ends-agree B h chunks-ends
 
 -- after every history on an arena of n pages
 pub chunks-after : (n : ℕ) → n ≤ maxPages → (rules : Rules) (xs : List Call) (b : List ℕ) → Represents n b (heapAfter n rules xs) → (c : ℕ) → ltb c 64 ≡ true → (h : ℕ) (ws gs fs : List ℕ)

@@ -17,7 +17,7 @@ use Rattle.model.specs.Arena.{commit}
 use Rattle.model.specs.Heap.{Heap}
 use Rattle.model.specs.Yields.{Listed}
 use Rattle.model.proofs.ArenaTidy.{tidy-give}
-use Rattle.arena.specs.Calls.{commitBook, given}
+use Rattle.arena.specs.Calls.{commitBook}
 use Rattle.pages.specs.declared.Park.the-variants.{Empty}
 use Rattle.calls.specs.Take.{Took, onRun, takeNew, takeCall}
 use Rattle.calls.specs.Chunks.{giveRuns}
@@ -27,11 +27,11 @@ use Rattle.refinement.specs.Run.{classReply}
 use Rattle.refinement.proofs.ArenaFrames.{given-changes}
 use Rattle.refinement.proofs.ArenaReached.{Reached}
 use Rattle.refinement.proofs.CommitRep.{commit-for}
-use Rattle.refinement.proofs.Book.{setting-of, frontier-in}
+use Rattle.refinement.proofs.Book.{setting-of, frontier-in, Stands, stands}
 use Rattle.refinement.proofs.Join.{changes, written}
 use Rattle.refinement.proofs.Take.{TakeRep, did, asked, take-own}
 use Rattle.refinement.proofs.TakeWhole.{run-only, run-fills}
-use Rattle.refinement.proofs.ReleaseGives.{waiting, next, next-reached, next-represents, next-class, left-represents, left-reached, left-class}
+use Rattle.refinement.proofs.ReleaseGives.{waiting, next, left}
 use Rattle.refinement.proofs.Releases as Releases
 use Rattle.refinement.proofs.Releases.{Ends, denied}
 use Rattle.refinement.proofs.ReleaseWhole.{release-rep}
@@ -45,14 +45,17 @@ Ours c (giveBack h ws) = ltb c 76 ≡ true
 Ours c (giveChunks h ws gs fs) = ltb c 64 ≡ true
 
 -- ---- gives
-gives-long : (n c : ℕ) (hc : ltb c 76 ≡ true) (ps : List Page) (s : Class) (b : List ℕ) (H : Heap) → Reached n H → Represents n b H → H .classes c ≡ waiting s ps
-    → length (giveRuns b (shapeOf c .pages) (firsts ps)) ≡ length b
-gives-long n c hc [] s b H ok R e = refl
-gives-long n c hc (p ∷ ps) s b H ok R e =
-    let t = waiting s ps in
+gives-long : {n c : ℕ} (ps : List Page) (s : Class) {b : List ℕ} → Stands n b c (waiting s ps) → length (giveRuns b (shapeOf c .pages) (firsts ps)) ≡ length b
+gives-long [] s B = refl
+gives-long {c = c} (p ∷ ps) s {b} B =
     let m = shapeOf c .pages in
-    gives-long n c hc ps s (given b (p .first) m) (next n c hc p t b H ok R e) (next-reached n c hc p t b H ok R e) (next-represents n c hc p t b H ok R e) (next-class n c hc p t b H ok R e)
-    ∙ given-changes b (p .first) m (rw (R .arena .loads) (tidy-give (shapeOf c .pages) (shape-sound c .paged) (p .first) (H .arena) (ok .tidy) .slots)) .long
+    gives-long ps s (next p (waiting s ps) B)
+    ∙ given-changes b (p .first) m (rw (B .represents .arena .loads) (tidy-give (shapeOf c .pages) (shape-sound c .paged) (p .first) (B .heap .arena) (B .reached .tidy) .slots)) .long
+
+-- ---- releases
+ends-long : {n c : ℕ} {t : Class} {b : List ℕ} → Stands n b c t → {w : Reply} {q : Ask} → Ends n b c t w q → length (w .book) ≡ length b
+ends-long B (denied k x u) = refl
+ends-long B (Releases.did {r = r} a) = rw (a .gives ∙ sym (a .named)) (gives-long (a .pages) (r .class) (left B a) ∙ a .only .long)
 
 module _ (n : ℕ) (hn : n ≤ maxPages) (b : List ℕ) (H : Heap) (R : Represents n b H) (ok : Reached n H) (c : ℕ) where
   -- ---- takes
@@ -78,18 +81,8 @@ module _ (n : ℕ) (hn : n ≤ maxPages) (b : List ℕ) (H : Heap) (R : Represen
         (λ u. rw u (own-long (take-own (setting-of n b H R c hc) l h (H .classes c .partial) (H .classes c .empty) (H .classes c .cold) (H .classes c .full)
         (frontier-in n b H R ok) (y .partial) (R .classes c hc))))
 
-  -- ---- releases
-  ends-long : (hc : ltb c 76 ≡ true) {w : Reply} {q : Ask} → Ends n b c (H .classes c) w q → length (w .book) ≡ length b
-  ends-long hc (denied k x u) = refl
-  ends-long hc (Releases.did {settled} {r = r} a) =
-      let o = a .only in
-      let ps = a .pages in
-      rw (a .gives ∙ sym (a .named))
-      (gives-long n c hc ps (r .class) settled _ (left-reached n b H R ok c hc settled o (r .class) ps (a .rep)) (left-represents n b H R ok c hc settled o (r .class) ps (a .rep))
-      (left-class n b H R ok c hc settled o (r .class) ps (a .rep)) ∙ o .long)
-
   -- ---- any request
   pub reply-long : Listed (shapeOf c) (H .classes c) → (x : Request) → Ours c x → length (classReply n b c x .book) ≡ length b
   reply-long y (take h l) hc = take-long hc h l y
-  reply-long y (giveBack h ws) hc = ends-long hc (release-rep n hn b H R ok c hc h ws)
-  reply-long y (giveChunks h ws gs fs) hs = ends-long (small-class c hs) (chunks-ends n hn b H R ok c hs h ws gs fs)
+  reply-long y (giveBack h ws) hc = ends-long (stands R ok hc refl) (release-rep n hn b H R ok c hc h ws)
+  reply-long y (giveChunks h ws gs fs) hs = ends-long (stands R ok (small-class c hs) refl) (chunks-ends n hn b H R ok c hs h ws gs fs)

@@ -35,12 +35,12 @@ use Rattle.refinement.specs.way.Represents.{RuleRep, Represents}
 use Rattle.refinement.proofs.Basics.{Setting, setting-kept}
 use Rattle.refinement.proofs.Frames.{ofClass, Only, only-trans}
 use Rattle.refinement.proofs.ArenaReached.{Reached}
+use Rattle.refinement.proofs.Book.{Stands, stands, setting}
 use Rattle.refinement.proofs.Found.{Away, found-at}
 use Rattle.refinement.proofs.Release.{SettledRep, stays, goes}
 use Rattle.refinement.proofs.Chunks.{every-blocks, once-blocks, Waits, backAt, First, first-of}
 use Rattle.refinement.proofs.ChunkWhole.{small-shape, all-wait, chunks-acts, chunks-tests}
 use Rattle.refinement.proofs.ArenaHolders.{small-class}
-use Rattle.refinement.proofs.Releases.{Stands, setting}
 use Rattle.refinement.proofs.Override.{override, PageIn, get-page}
 use Rattle.refinement.proofs.LocalFill.{Home, home-only}
 use Rattle.refinement.proofs.LocalBack.{chunk-local}
@@ -120,10 +120,10 @@ module _ {S : ℕ → Bool} (n : ℕ) (hn : n ≤ maxPages) (b : List ℕ) (H : 
       → releaseChunks n (override S b d) c (shapeOf c) h ws gs fs .book ≡ override S (releaseChunks n b c (shapeOf c) h ws gs fs .book) d
   group-local ws gs fs =
       let hc = small-class c hs in
-      let B : Stands n b c (H .classes c) = record { short = hn; row = small-class c hs; heap = H; represents = R; reached = ok; state = refl } in
-      chunks-tests h B (record { short = hn; row = hc; heap = H′; represents = R′; reached = ok′; state = et }) hs (H .rules c) ws gs fs
+      let B : Stands n b c (H .classes c) = stands R ok (small-class c hs) refl in
+      chunks-tests hn h B (stands R′ ok′ hc et) hs (H .rules c) ws gs fs
       (λ w w′ q. StaysHome q ⊎ Roams S H c → w′ .book ≡ override S (w .book) d) (λ k u a. refl)
       (λ k o once fits apart a.
       rw (chunks-in S hn (H .rules c) (small-shape c hs) h ws once b (setting B) (R .rules c hc) d (homes-of ws o) gs apart b (H .classes c) [] (changes-none (ofClass b c) b) hm (R .classes c hc)
-      (all-wait B hs ws k o once gs fits))
-      (runs-local B d (chunks-acts B hs ws k o once h gs fits apart fs) a))
+      (all-wait hn B hs ws k o once gs fits))
+      (runs-local B d (chunks-acts hn B hs ws k o once h gs fits apart fs) a))

@@ -49,7 +49,7 @@ use Rattle.refinement.proofs.Moves.{to-partial, link-only}
 use Rattle.refinement.proofs.Fill.{FillRep, fills}
 use Rattle.refinement.proofs.Take.{TakeRep, did, asked, take-own}
 use Rattle.refinement.proofs.Pushes.{carve-first}
-use Rattle.refinement.proofs.Book.{setting-of, frontier-in, classes-with}
+use Rattle.refinement.proofs.Book.{setting-of, frontier-in, classes-with, stands}
 use Rattle.refinement.proofs.Releases as Releases
 use Rattle.refinement.proofs.Releases.{denied, ends-agree}
 use Rattle.refinement.proofs.Join.{none-arena, none-rule, none-stays, new-rule, new-setting, new-arena, new-reached, others-stay, class-joins}
@@ -148,7 +148,7 @@ module _ (n : ℕ) (b : List ℕ) (H : Heap) (R : Represents n b H) (ok : Reache
   -- ---- any take
   own-agrees : (h : ℕ) (l : List ℕ) (w : Took) (q : Ask) → TakeRep n b c (shapeOf c) h l w q → Agrees (Represents n) (takeReply w) (interact n H c h q)
   own-agrees h l w q (did k) =
-      ends-agree n b H R ok c hc h
+      ends-agree (stands R ok hc refl) h
       (rw (k .code, sym (k .answer)) (Releases.did (record { pages = []; rep = k .rep; only = k .only; gives = sym (k .gives); named = sym (k .gives) })))
   own-agrees h l w q (asked fs z) = take-new h l fs z
 
@@ -157,7 +157,7 @@ module _ (n : ℕ) (b : List ℕ) (H : Heap) (R : Represents n b H) (ok : Reache
   unfolding takeCall classCall answer
   take-whole y h l =
       by-cases (ltb (length l) (shapeOf c .batch))
-      (λ u. rw u (ends-agree n b H R ok c hc h (denied 5 (Calls.refused 5) refl)))
+      (λ u. rw u (ends-agree (stands R ok hc refl) h (denied 5 (Calls.refused 5) refl)))
       (λ u. rw u (own-agrees h l _ _
       (take-own (setting-of n b H R c hc) l h (H .classes c .partial) (H .classes c .empty) (H .classes c .cold) (H .classes c .full)
       (frontier-in n b H R ok) (y .partial) (R .classes c hc))))
