@@ -1,6 +1,8 @@
 -- A group release, whole: on a book that stands for a reached heap it has the model's answer, is never refused by number 13, and
 -- leaves a book that stands for the model's next heap. n is at most the longest arena, c a small class.
 --     chunks-valid     number 13's tests pass
+--     chunks-tests     refused with one number on two books and in the model, or passed on all three
+--     chunks-ends      refused by both with one number, or settled alike
 --     chunks-whole     every group release, refused or not, of any fates, the gives included
 --     chunks-after     the same after any history
 use Prim.Native.Nat.{ℕ, _+_, _≤_}

@@ -1,7 +1,8 @@
 -- The chunks of a group release, one after the other: fates, runs for the arena and book are the model's.
 --     settle-skips     settling one page leaves every other page where the model finds it
---     settle-counts    what it adds to the stores and to the runs for the arena
+--     settle-adds      what it adds to the stores and to the runs for the arena
 --     Waits            a chunk whose page has its blocks out, whatever the chunks before it did
+--     First            what comes of the first chunk
 --     chunks-rep       all chunks
 use Prim.Native.Nat.{ℕ, _+_, _≤_}
 use native.Mathlib.Omega.{arith}

@@ -1,4 +1,5 @@
 -- Runs that wait in no list go to the arena one after the other: the whole book stands for the model's heap.
+--     Acts          what a class's call settled, and the runs that it gives
 --     all-given     the book after the gives
 --     all-held      so many pages are held before them
 use Prim.Native.Nat.{ℕ, _+_, _*_, _≤_}

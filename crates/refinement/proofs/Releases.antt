@@ -1,8 +1,8 @@
--- A release, by list or by groups: what both go through. Their tests are alike on every book that stands for the class's state, and in the
--- model; where all pass, the class's words are settled and then runs go to the arena.
+-- A release, by list or by groups: what both go through. Each number's test is alike on every book that stands for the class's state, and in
+-- the model; where all pass, the class's words are settled and then runs go to the arena.
 --     tested         a number's test, on two such books and in the model
 --     past-ten       numbers 15 and 10
---     Ends           refused with the model's number, or settled and the runs given
+--     Ends           refused with the model's number, or settled and the runs given; a take that asks no run ends so too
 --     ends-agree     the answer is the model's and never number 13, and the book stands for the model's next heap
 use Prim.Native.Nat.{ℕ, _≤_}
 use native.Mathlib.Omega.{arith}
@@ -31,6 +31,7 @@ use Rattle.refinement.proofs.OutTests.{once-here, fault-same}
 use Rattle.refinement.proofs.ReleaseGives.{Acts, all-given}
 
 -- ---- the tests: P is claimed of the outcomes on two books and in the model, and holds where one number refuses on all three
+-- a number, but 13
 abbrev pub Refusal : ℕ → Type 0
 Refusal k = (eqb k 0 || eqb k 13) ≡ false
 
