@@ -1,6 +1,7 @@
 -- The whole book after a call that changed words of one class only.
 --     setting-of           the standing facts, of a represented book
 --     represents-class     the book stands for the heap with that class's new state
+--     Stands               it stands for a reached heap whose class c has state t
 use Prim.Native.Nat.{ℕ}
 use native.Mathlib.Omega.{arith}
 use native.Mathlib.Decide.{ℕ-discrete}
@@ -53,3 +54,21 @@ module _ (n : ℕ) (b : List ℕ) (H : Heap) (R : Represents n b H) where
       classes = classes-with n b′ H c s new (λ d hd ne. class-beside d c (shape-sound d) hd ne h (R .classes d hd));
       rules = λ d hd. only-rule c h d hd (R .rules d hd);
     }
+
+-- ---- the situation of a class's call
+pub record Stands (n : ℕ) (b : List ℕ) (c : ℕ) (t : Class) : Type 0 where
+  pub heap : Heap
+  pub represents : Represents n b heap
+  pub reached : Reached n heap
+  pub row : ltb c 76 ≡ true
+  pub state : heap .classes c ≡ t
+
+abbrev pub stands : {n : ℕ} {b : List ℕ} {H : Heap} {c : ℕ} {t : Class} → Represents n b H → Reached n H → ltb c 76 ≡ true → H .classes c ≡ t → Stands n b c t
+stands {H = H} R ok hc e = record { heap = H; represents = R; reached = ok; row = hc; state = e }
+
+module _ {n : ℕ} {b : List ℕ} {c : ℕ} {t : Class} (B : Stands n b c t) where
+  pub setting : Setting n b c (shapeOf c)
+  setting = setting-of n b (B .heap) (B .represents) c (B .row)
+
+  pub state-rep : StateRep n b c (shapeOf c) t
+  state-rep = state-as (B .represents) (B .row) (B .state)

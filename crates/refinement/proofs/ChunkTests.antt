@@ -2,20 +2,20 @@
 --     same-blocks      a chunk's blocks are the model's
 --     chunks-same      number 11
 use Prim.Native.Nat.{ℕ, _≤_}
-use mathlib.Core.Bool.{Bool, true, false, cond, not, _&&_, false≢true}
+use mathlib.Core.Bool.{Bool, true, false, cond, not, _&&_}
 use mathlib.Core.List.{List, [], _∷_, map}
 use mathlib.Core.Option.{Option, none, some}
-use mathlib.Core.Path.{_≡_, refl, sym, ap, _∙_}
+use mathlib.Core.Path.{_≡_, refl, ap, _∙_}
 use lib.Dec.{eqb}
 use borrow.Author.Tests.{eqb-true}
-use Rattle.facts.specs.Lists.{every, All, isSome, elem, distinct}
+use Rattle.facts.specs.Lists.{every, All, elem, distinct}
 use Rattle.facts.proofs.Bools.{by-cases, and-left, and-right}
 use Rattle.words.specs.Word.{countOf, pageOf}
 use Rattle.classes.specs.declared.Shape.{Shape}
 use Rattle.fields.specs.Ranges.{maxPages}
 use Rattle.model.specs.Page.{Page, isOut}
 use Rattle.model.specs.Class.{Class}
-use Rattle.model.specs.Release.{Site, inPartial, inFull, locate, ofKind, outHere}
+use Rattle.model.specs.Release.{Site, inPartial, inFull, locate, ofKind}
 use Rattle.model.specs.Chunks as Model
 use Rattle.model.specs.Chunks.{startsAt, fitsOn, chunkedOn, chunked}
 use Rattle.model.proofs.Find.{all-at}
@@ -23,7 +23,7 @@ use Rattle.calls.specs.Out.{startOf, outAt}
 use Rattle.calls.specs.Chunks.{blocksOn, chunkFits, chunksMatch}
 use Rattle.refinement.specs.way.Represents.{PageRep, StateRep}
 use Rattle.refinement.proofs.Basics.{Setting}
-use Rattle.refinement.proofs.Found.{Located, nowhere, inList, inNone, located, located-passes, found-at, placed-rep, same-page, out-here}
+use Rattle.refinement.proofs.Found.{Located, nowhere, inList, inNone, located, located-passes, found-at, placed-rep, same-page, site-of}
 
 -- a count that is none fits nothing
 none-fits : (k : ℕ) → (not (eqb k 0) && eqb k 0) ≡ false
@@ -49,33 +49,13 @@ module _ {n : ℕ} {b : List ℕ} {c : ℕ} {sh : Shape} (s : Setting n b c sh) 
       both t u w e f = cc
 
   module _ (t : Class) (r : StateRep n b c sh t) where
-    -- the site of a word that is out in the class
-    pub record SiteOf (w : ℕ) : Type 0 where
-      pub site : Site
-      pub is : locate (isOut sh w) t ≡ some site
-      pub found : Located (isOut sh w) t (some site)
-      pub start : startOf b w ≡ site .page .first
-
-    pub site-of : (w : ℕ) → ofKind (sh .kind) w ≡ true → outAt n b c sh w ≡ true → SiteOf w
-    unfolding outHere
-    site-of w k o = go (locate (isOut sh w) t) refl (located (isOut sh w) t) (sym (out-here s hn t r w k) ∙ o)
-      where
-        go : (x : Option Site) → locate (isOut sh w) t ≡ x → Located (isOut sh w) t x → isSome x ≡ true → SiteOf w
-        go none e y f = absurd (false≢true f)
-        go (some x) e y f = record {
-          site = x;
-          is = e;
-          found = y;
-          start = eqb-true (startOf b w) (x .page .first) (sym (same-page s hn (placed-rep (found-at {zs = []} r y .placed)) w k o) ∙ located-passes y);
-        }
-
     module _ (gs : List ℕ) where
       chunked-is : (ws : List ℕ) → every (ofKind (sh .kind)) ws ≡ true → every (outAt n b c sh) ws ≡ true
           → every (λ w. elem (startOf b w) (map pageOf gs)) ws ≡ every (chunked sh t gs) ws
       unfolding chunked
       chunked-is [] k o = refl
       chunked-is (w ∷ ws) k o =
-          let x = site-of w (and-left (ofKind (sh .kind) w) (every (ofKind (sh .kind)) ws) k) (and-left (outAt n b c sh w) (every (outAt n b c sh) ws) o) in
+          let x = site-of s hn t r w (and-left (ofKind (sh .kind) w) (every (ofKind (sh .kind)) ws) k) (and-left (outAt n b c sh w) (every (outAt n b c sh) ws) o) in
           let e : elem (startOf b w) (map pageOf gs) ≡ chunkedOn gs (locate (isOut sh w) t) = rw (x .is, x .start) in
           rw (e, chunked-is ws (and-right (ofKind (sh .kind) w) (every (ofKind (sh .kind)) ws) k) (and-right (outAt n b c sh w) (every (outAt n b c sh) ws) o))
 
@@ -85,7 +65,7 @@ module _ {n : ℕ} {b : List ℕ} {c : ℕ} {sh : Shape} (s : Setting n b c sh) 
     unfolding blocksOn
     nothing-on q u v [] k o = refl
     nothing-on q u v (w ∷ ws) k o =
-        let x = site-of w (and-left (ofKind (sh .kind) w) (every (ofKind (sh .kind)) ws) k) (and-left (outAt n b c sh w) (every (outAt n b c sh) ws) o) in
+        let x = site-of s hn t r w (and-left (ofKind (sh .kind) w) (every (ofKind (sh .kind)) ws) k) (and-left (outAt n b c sh w) (every (outAt n b c sh) ws) o) in
         let e : eqb (startOf b w) q ≡ false = rw (x .start) (site-fails (startsAt q) (x .found) u v) in
         rw e (nothing-on q u v ws (and-right (ofKind (sh .kind) w) (every (ofKind (sh .kind)) ws) k) (and-right (outAt n b c sh w) (every (outAt n b c sh) ws) o))
 

@@ -1,14 +1,15 @@
 -- The chunks of a group release, one after the other: fates, runs for the arena and book are the model's.
 --     settle-skips     settling one page leaves every other page where the model finds it
---     settle-counts    what it adds to the stores and to the runs for the arena
+--     settle-adds      what it adds to the stores and to the runs for the arena
 --     Waits            a chunk whose page has its blocks out, whatever the chunks before it did
+--     First            what comes of the first chunk
 --     chunks-rep       all chunks
 use Prim.Native.Nat.{ℕ, _+_, _≤_}
 use native.Mathlib.Omega.{arith}
 use mathlib.Core.Bool.{Bool, true, false, cond, not, true≢false}
 use mathlib.Core.List.{List, [], _∷_, _++_, map, append-assoc, append-nil}
 use mathlib.Core.Option.{Option, none, some, Option·none-ne-some, Option·some-injective}
-use mathlib.Core.Path.{_≡_, refl, sym, ap, _∙_, subst}
+use mathlib.Core.Path.{_≡_, refl, sym, ap, _∙_}
 use lib.Dec.{eqb}
 use lib.ListN.{length}
 use borrow.Author.Tests.{eqb-true, ne-eqb, not-true}
@@ -106,12 +107,12 @@ unfolding Model.blocksOn
 once-blocks sh ws once p w = omega (arith, filter-le (λ w. isOut sh w p) w ws, distinct-count w ws once)
 
 -- a chunk's blocks go by where the runs begin
-pub blocks-kept : (b b′ : List ℕ) → ((w : ℕ) → startOf b′ w ≡ startOf b w) → (ws : List ℕ) (q : ℕ) → blocksOn b′ ws q ≡ blocksOn b ws q
+blocks-kept : (b b′ : List ℕ) → ((w : ℕ) → startOf b′ w ≡ startOf b w) → (ws : List ℕ) (q : ℕ) → blocksOn b′ ws q ≡ blocksOn b ws q
 unfolding blocksOn
 blocks-kept b b′ k [] q = refl
 blocks-kept b b′ k (w ∷ ws) q = rw (k w, blocks-kept b b′ k ws q)
 
-pub start-kept : (c : ℕ) {b b′ : List ℕ} → Only c b b′ → (w : ℕ) → startOf b′ w ≡ startOf b w
+start-kept : (c : ℕ) {b b′ : List ℕ} → Only c b b′ → (w : ℕ) → startOf b′ w ≡ startOf b w
 unfolding startOf
 start-kept c h w = only-owns c h .starts _
 
@@ -122,7 +123,7 @@ pub record Waits (sh : Shape) (ws b₀ : List ℕ) (t : Class) (g : ℕ) : Type 
   pub blocks : Model.blocksOn sh ws page ≡ blocksOn b₀ ws (pageOf g)
   pub all : returnsAll b₀ g ≡ noneOut sh (returned (Model.blocksOn sh ws page) page)
 
-pub waits-next : (sh : Shape) (ws b₀ : List ℕ) (t t′ : Class) (q : ℕ) → ((r : ℕ) → eqb q r ≡ false → firstOf (startsAt r) t′ ≡ firstOf (startsAt r) t)
+waits-next : (sh : Shape) (ws b₀ : List ℕ) (t t′ : Class) (q : ℕ) → ((r : ℕ) → eqb q r ≡ false → firstOf (startsAt r) t′ ≡ firstOf (startsAt r) t)
     → (gs : List ℕ) → elem q (map pageOf gs) ≡ false → All (Waits sh ws b₀ t) gs → All (Waits sh ws b₀ t′) gs
 waits-next sh ws b₀ t t′ q k [] e a = tt
 waits-next sh ws b₀ t t′ q k (g ∷ gs) e a =
@@ -184,59 +185,72 @@ first-then {n} {c} {sh} zs q k o₀ (goes {b′ = b′} {s = s} p e r o) rest =
     let r₁ : Away n b′ c sh s (zs ++ (p ∷ [])) = rw (append-assoc zs (p ∷ []) (s .full)) (full-in zs p (s .full) r) in
     goes-then zs q p k e (rest (zs ++ (p ∷ [])) (only-trans c o₀ o) r₁)
 
+-- the chunk whose page is at site x, on the words and in the model
+abbrev pub backAt : List ℕ → ℕ → Shape → ℕ → List ℕ → Site → Released
+backAt b c sh h ws x = chunkBackAt b c sh h (x .page .first) (map (indexOf sh (x .page .first)) (Model.blocksOn sh ws (x .page)))
+
+abbrev settleAt : Shape → Limits → ℕ → List ℕ → Site → Settled
+settleAt sh lim h ws x = settle sh lim h true (Model.blocksOn sh ws (x .page)) x
+
 module _ {n c : ℕ} {sh : Shape} (hn : n ≤ maxPages) (lim : Limits) (small : isMedium sh ≡ false) (h : ℕ) (ws : List ℕ) (once : distinct ws ≡ true)
     (b₀ : List ℕ) (s₀ : Setting n b₀ c sh) (rl₀ : RuleRep b₀ c lim) where
+  -- the first of the chunks, on any book after those before: its page, and what comes of it; the others wait on
+  pub record First (b : List ℕ) (t : Class) (zs : List Page) (g : ℕ) (gs : List ℕ) : Type 0 where
+    pub site : Site
+    pub is : locate (startsAt (pageOf g)) t ≡ some site
+    pub found : Located (startsAt (pageOf g)) t (some site)
+    pub here : pageOf g ≡ site .page .first
+    pub blocks : blocksOn b ws (pageOf g) ≡ Model.blocksOn sh ws (site .page)
+    pub all : returnsAll b₀ g ≡ noneOut sh (returned (Model.blocksOn sh ws (site .page)) (site .page))
+    pub settled : SettledRep n b c sh zs 6 (site .page .first) (backAt b c sh h ws site) (settleAt sh lim h ws site)
+    pub waits : All (Waits sh ws b₀ (settleAt sh lim h ws site .class)) gs
+    pub others : distinct (map pageOf gs) ≡ true
+
+  pub first-of : (g : ℕ) (gs : List ℕ) → distinct (map pageOf (g ∷ gs)) ≡ true → (b : List ℕ) (t : Class) (zs : List Page) → Only c b₀ b → Away n b c sh t zs → All (Waits sh ws b₀ t) (g ∷ gs)
+      → First b t zs g gs
+  first-of g gs d b t zs o r a = go (locate (startsAt (pageOf g)) t) refl (located (startsAt (pageOf g)) t) (located-first (startsAt (pageOf g)) t ∙ a .0 .found)
+    where
+      go : (x : Option Site) → locate (startsAt (pageOf g)) t ≡ x → Located (startsAt (pageOf g)) t x → pageIn x ≡ some (a .0 .page) → First b t zs g gs
+      go none i y e = absurd (Option·none-ne-some (a .0 .page) e)
+      go (some x) i y e =
+          let bs = Model.blocksOn sh ws (x .page) in
+          let new = elem (pageOf g) (map pageOf gs) in
+          let ep : x .page ≡ a .0 .page = Option·some-injective (x .page) (a .0 .page) e in
+          let eq : x .page .first ≡ pageOf g = eqb-true (x .page .first) (pageOf g) (located-passes y) in
+          record {
+            site = x;
+            is = i;
+            found = y;
+            here = sym eq;
+            blocks = blocks-kept b₀ b (start-kept c o) ws (pageOf g) ∙ sym (ap (Model.blocksOn sh ws) ep ∙ a .0 .blocks);
+            all = rw ep (a .0 .all);
+            settled = settle-chunk (setting-kept b (o .long) s₀) hn (only-rule c o c (s₀ .row) rl₀) h x (found-at {zs = zs} r y .placed) bs (every-blocks sh ws (x .page)) (once-blocks sh ws once (x .page)) small;
+            waits = waits-next sh ws b₀ t _ (pageOf g) (λ z ne. settle-skips sh lim h y bs z (ap (λ v. eqb v z) eq ∙ ne)) gs (not-true new (and-left (not new) (distinct (map pageOf gs)) d)) (a .1);
+            others = and-right (not new) (distinct (map pageOf gs)) d;
+          }
+
   -- the chunks gs, of any book after the first ones
   Rest : List ℕ → Type 0
   Rest gs =
       (b : List ℕ) (t : Class) (zs : List Page) → Only c b₀ b → Away n b c sh t zs → All (Waits sh ws b₀ t) gs
       → ChunksRep n c sh b₀ zs (settleChunks b c sh h ws gs) (Model.settleChunks sh lim h ws t gs) (runsGiven b₀ sh lim gs (length (t .empty)) (length (t .cold)))
 
-  module _ (g : ℕ) (gs : List ℕ) (rest : Rest gs) (new : elem (pageOf g) (map pageOf gs) ≡ false) (b : List ℕ) (t : Class) (zs : List Page) (o : Only c b₀ b) (r : Away n b c sh t zs)
-      (wait : Waits sh ws b₀ t g) (waits : All (Waits sh ws b₀ t) gs) where
-    outcome : Released
-    outcome = chunkBackAt b c sh h (pageOf g) (map (indexOf sh (pageOf g)) (blocksOn b ws (pageOf g)))
-
-    s : Setting n b c sh
-    s = setting-kept b (o .long) s₀
-
-    runs-are : (x : Site) → Located (startsAt (pageOf g)) t (some x) → x .page ≡ wait .page
-        → (let y = settle sh lim h true (Model.blocksOn sh ws (x .page)) x in
+  module _ {b : List ℕ} {t : Class} {zs : List Page} {g : ℕ} {gs : List ℕ} (f : First b t zs g gs) where
+    runs-are : (let y = settleAt sh lim h ws (f .site) in
         runsGiven b₀ sh lim (g ∷ gs) (length (t .empty)) (length (t .cold)) ≡ length (y .gives) + runsGiven b₀ sh lim gs (length (y .class .empty)) (length (y .class .cold)))
     unfolding runsGiven
-    runs-are x y e =
-        let a = settle-adds sh lim h y (Model.blocksOn sh ws (x .page)) in
-        let all : returnsAll b₀ g ≡ noneOut sh (returned (Model.blocksOn sh ws (x .page)) (x .page)) = rw e (wait .all) in
-        by-cases (noneOut sh (returned (Model.blocksOn sh ws (x .page)) (x .page)))
-        (λ u. rw (all, u, a .empty, a .cold, a .gives, u))
-        (λ u. rw (all, u, a .empty, a .cold, a .gives, u) (omega arith))
+    runs-are =
+        let p = f .site .page in
+        let a = settle-adds sh lim h (f .found) (Model.blocksOn sh ws p) in
+        by-cases (noneOut sh (returned (Model.blocksOn sh ws p) p)) (λ u. rw (f .all, u, a .empty, a .cold, a .gives, u)) (λ u. rw (f .all, u, a .empty, a .cold, a .gives, u) (omega arith))
 
-    step : (x : Option Site) → Located (startsAt (pageOf g)) t x → pageIn x ≡ some (wait .page)
-        → ChunksRep n c sh b₀ zs (thenWords (pageOf g) (outcome .fate) (settleChunks (outcome .book) c sh h ws gs))
-        (thenModel (settleChunk sh lim h t ws x .fate) (settleChunk sh lim h t ws x .gives) (Model.settleChunks sh lim h ws (settleChunk sh lim h t ws x .class) gs)) (runsGiven b₀ sh lim (g ∷ gs) (length (t .empty)) (length (t .cold)))
-    unfolding settleChunk outcome Rest
-    step none y e = absurd (Option·none-ne-some (wait .page) e)
-    step (some x) y e =
-        let q = pageOf g in
-        let bs = Model.blocksOn sh ws (x .page) in
-        let ep : x .page ≡ wait .page = Option·some-injective (x .page) (wait .page) e in
-        let eq : x .page .first ≡ pageOf g = eqb-true (x .page .first) (pageOf g) (located-passes y) in
-        let eb : Model.blocksOn sh ws (x .page) ≡ blocksOn b ws (pageOf g)
-        = ap (Model.blocksOn sh ws) ep ∙ wait .blocks ∙ sym (blocks-kept b₀ b (start-kept c o) ws (pageOf g)) in
-        let y₁ = settle sh lim h true (Model.blocksOn sh ws (x .page)) x in
-        let settled = settle-chunk s hn (only-rule c o c (s₀ .row) rl₀) h x (found-at {zs = zs} r y .placed) (Model.blocksOn sh ws (x .page)) (every-blocks sh ws (x .page)) (once-blocks sh ws once (x .page)) small in
-        let settled₁ = subst (λ (z : ℕ). SettledRep n b c sh zs 6 z (chunkBackAt b c sh h z (map (indexOf sh z) bs)) y₁) eq settled in
-        let settled₂ = subst (λ (l : List ℕ). SettledRep n b c sh zs 6 q (chunkBackAt b c sh h q (map (indexOf sh q) l)) y₁) eb settled₁ in
-        rw (runs-are x y ep)
-        (first-then zs (pageOf g) _ o settled₂
-        (λ zs′ o′ r′. rest _ (y₁ .class) zs′ o′ r′ (waits-next sh ws b₀ t (y₁ .class) q (λ z ne. settle-skips sh lim h y bs z (ap (λ v. eqb v z) eq ∙ ne)) gs new waits)))
+    step : Only c b₀ b → Rest gs
+        → ChunksRep n c sh b₀ zs (settleChunks b c sh h ws (g ∷ gs)) (Model.settleChunks sh lim h ws t (g ∷ gs)) (runsGiven b₀ sh lim (g ∷ gs) (length (t .empty)) (length (t .cold)))
+    unfolding settleChunks Model.settleChunks settleChunk Rest
+    step o rest = rw (runs-are, f .is, f .blocks, f .here) (first-then zs _ _ o (f .settled) (λ zs′ o′ r′. rest _ _ zs′ o′ r′ (f .waits)))
 
   pub chunks-rep : (gs : List ℕ) → distinct (map pageOf gs) ≡ true → (b : List ℕ) (t : Class) (zs : List Page) → Only c b₀ b → Away n b c sh t zs → All (Waits sh ws b₀ t) gs
       → ChunksRep n c sh b₀ zs (settleChunks b c sh h ws gs) (Model.settleChunks sh lim h ws t gs) (runsGiven b₀ sh lim gs (length (t .empty)) (length (t .cold)))
-  unfolding settleChunks Model.settleChunks runsGiven Rest outcome
+  unfolding settleChunks Model.settleChunks runsGiven Rest
   chunks-rep [] d b t zs o r a = record { pages = []; rep = rw (append-nil zs) r; only = o; fates = refl; gives = refl; named = refl; number = refl }
-  chunks-rep (g ∷ gs) d b t zs o r a =
-      let new = not-true (elem (pageOf g) (map pageOf gs)) (and-left (not (elem (pageOf g) (map pageOf gs))) (distinct (map pageOf gs)) d) in
-      let others = and-right (not (elem (pageOf g) (map pageOf gs))) (distinct (map pageOf gs)) d in
-      step g gs (λ b t zs o r a. chunks-rep gs others b t zs o r a) new b t zs o r (a .0) (a .1) (locate (startsAt (pageOf g)) t) (located (startsAt (pageOf g)) t)
-      (located-first (startsAt (pageOf g)) t ∙ a .0 .found)
+  chunks-rep (g ∷ gs) d b t zs o r a = let f = first-of g gs d b t zs o r a in step f o (λ b t zs o r a. chunks-rep gs (f .others) b t zs o r a)

@@ -3,6 +3,7 @@
 --     Away, Placed    a class with pages in no list that wait for the arena, and a page of it at its site
 --     same-page       on a page of the class a block is out exactly if the words name that page
 --     out-here        number 10's test on the words is the model's
+--     site-of         the site of a word that is out
 use Prim.Native.Nat.{ℕ, _+_, _≤_}
 use native.Mathlib.Omega.{arith}
 use mathlib.Core.Bool.{Bool, true, false, true≢false, false≢true}
@@ -234,3 +235,23 @@ module _ {n : ℕ} {b : List ℕ} {c : ℕ} {sh : Shape} (s : Setting n b c sh) 
   outs-here t r [] k = refl
   outs-here t r (w ∷ ws) k =
       rw (out-here t r w (and-left (ofKind (sh .kind) w) (every (ofKind (sh .kind)) ws) k), outs-here t r ws (and-right (ofKind (sh .kind) w) (every (ofKind (sh .kind)) ws) k))
+
+  module _ (t : Class) (r : StateRep n b c sh t) where
+    -- where the words say that the run of a word begins
+    pub start-at : (w : ℕ) {x : Site} → Located (isOut sh w) t (some x) → ofKind (sh .kind) w ≡ true → outAt n b c sh w ≡ true → startOf b w ≡ x .page .first
+    start-at w {x} y k o = eqb-true (startOf b w) (x .page .first) (sym (same-page (placed-rep (found-at {zs = []} r y .placed)) w k o) ∙ located-passes y)
+
+    -- the site of a word that is out in the class
+    pub record SiteOf (w : ℕ) : Type 0 where
+      pub site : Site
+      pub is : locate (isOut sh w) t ≡ some site
+      pub found : Located (isOut sh w) t (some site)
+      pub start : startOf b w ≡ site .page .first
+
+    pub site-of : (w : ℕ) → ofKind (sh .kind) w ≡ true → outAt n b c sh w ≡ true → SiteOf w
+    unfolding outHere
+    site-of w k o = go (locate (isOut sh w) t) refl (located (isOut sh w) t) (sym (out-here t r w k) ∙ o)
+      where
+        go : (x : Option Site) → locate (isOut sh w) t ≡ x → Located (isOut sh w) t x → isSome x ≡ true → SiteOf w
+        go none e y f = absurd (false≢true f)
+        go (some x) e y f = record { site = x; is = e; found = y; start = start-at w y k o }

@@ -41,6 +41,7 @@ pub mod Returned
 pub mod Release
 pub mod ReleaseValid
 pub mod ReleaseGives
+pub mod Releases
 pub mod ReleaseWhole
 pub mod ChunkTests
 pub mod Chunks

@@ -3,55 +3,48 @@
 --     group-local    the release keeps to the class's words, and the arena's where it gives
 use Prim.Native.Nat.{ℕ, _+_, _≤_, _<_}
 use native.Mathlib.Omega.{arith}
-use mathlib.Core.Bool.{Bool, true, false, cond, not, _&&_, _||_}
+use mathlib.Core.Bool.{Bool, true, false}
 use mathlib.Core.List.{List, [], _∷_, _++_, map}
-use mathlib.Core.Logic.{_⊎_, inl, inr}
-use mathlib.Core.Option.{Option, none, some, Option·none-ne-some, Option·some-injective}
-use mathlib.Core.Path.{_≡_, refl, sym, ap, _∙_, subst}
-use lib.Dec.{eqb, ltb, leb}
-use lib.ListN.{length, drop}
-use borrow.Author.Tests.{eqb-true, not-true, leb-true, ltb-true}
-use Rattle.words.specs.Word.{chunkKind, pageOf}
+use mathlib.Core.Logic.{_⊎_}
+use mathlib.Core.Path.{_≡_, refl, subst}
+use lib.Dec.{ltb, leb}
+use borrow.Author.Tests.{leb-true, ltb-true}
+use Rattle.words.specs.Word.{pageOf}
 use Rattle.classes.specs.declared.Shape.{Shape}
 use Rattle.classes.specs.Shape.{smallShape, shapeOf}
 use Rattle.rules.specs.declared.Limits.{Limits}
 use Rattle.fields.specs.Field.{page, first}
 use Rattle.fields.specs.Ranges.{maxPages}
 use Rattle.fields.proofs.Changes.{changes-none}
-use Rattle.facts.specs.Lists.{All, every, elem, distinct, isNil}
+use Rattle.facts.specs.Lists.{All, every, distinct}
 use Rattle.model.specs.Calls.{fates}
 use Rattle.model.specs.Page.{Page, isMedium}
-use Rattle.model.specs.Class.{Class, done}
-use Rattle.model.specs.Release.{Site, Settled, locate, ofKind, outHere, repeats, settle}
+use Rattle.model.specs.Class.{Class}
+use Rattle.model.specs.Release.{Settled}
 use Rattle.model.specs.Chunks as Model
-use Rattle.model.specs.Chunks.{startsAt, chunked, chunksMax}
 use Rattle.model.specs.Heap.{Heap}
 use Rattle.model.specs.Demands.{StaysHome}
-use Rattle.facts.proofs.Bools.{by-cases, and-left, and-right}
-use Rattle.model.proofs.Find.{pageIn, located-first}
+use Rattle.facts.proofs.Bools.{and-left, and-right}
 use Rattle.pages.specs.Runs.{whole}
 use Rattle.pages.specs.Stack.{indexOf, pageAt}
 use Rattle.calls.specs.Out.{startOf, inRunOf, outAt}
 use Rattle.calls.specs.Release.{Released}
 use Rattle.calls.specs.Chunks as Words
-use Rattle.calls.specs.Chunks.{blocksOn, chunksMatch, chunksValid, chunkBackAt, givesOf, settleChunks, giveRuns, chunksNone, releaseChunks}
-use Rattle.refinement.specs.way.Represents.{StateRep, RuleRep, Represents}
+use Rattle.calls.specs.Chunks.{blocksOn, chunkBackAt, givesOf, settleChunks, releaseChunks}
+use Rattle.refinement.specs.way.Represents.{RuleRep, Represents}
 use Rattle.refinement.proofs.Basics.{Setting, setting-kept}
-use Rattle.refinement.proofs.Frames.{ofClass, Only, only-trans, only-rule}
+use Rattle.refinement.proofs.Frames.{ofClass, Only, only-trans}
 use Rattle.refinement.proofs.ArenaReached.{Reached}
-use Rattle.refinement.proofs.Book.{setting-of, state-as}
-use Rattle.refinement.proofs.Found.{Located, located, located-passes, Away, found-at, outs-here}
-use Rattle.refinement.proofs.OutTests.{once-here, fault-same}
-use Rattle.refinement.proofs.Release.{SettledRep, stays, goes, settle-chunk}
-use Rattle.refinement.proofs.LocalGives.{all-local}
-use Rattle.refinement.proofs.ChunkTests.{chunks-same}
-use Rattle.refinement.proofs.Chunks.{every-blocks, once-blocks, settle-skips, Waits, waits-next, blocks-kept, start-kept}
-use Rattle.refinement.proofs.ChunkWhole.{small-shape, all-wait, all-settled, chunks-valid}
+use Rattle.refinement.proofs.Book.{Stands, stands, setting}
+use Rattle.refinement.proofs.Found.{Away, found-at}
+use Rattle.refinement.proofs.Release.{SettledRep, stays, goes}
+use Rattle.refinement.proofs.Chunks.{every-blocks, once-blocks, Waits, backAt, First, first-of}
+use Rattle.refinement.proofs.ChunkWhole.{small-shape, all-wait, chunks-acts, chunks-tests}
 use Rattle.refinement.proofs.ArenaHolders.{small-class}
 use Rattle.refinement.proofs.Override.{override, PageIn, get-page}
 use Rattle.refinement.proofs.LocalFill.{Home, home-only}
-use Rattle.refinement.proofs.LocalBack.{overrideReleased, chunk-local}
-use Rattle.refinement.proofs.LocalList.{Roams, home-gives}
+use Rattle.refinement.proofs.LocalBack.{chunk-local}
+use Rattle.refinement.proofs.LocalGives.{Roams, runs-local}
 
 abbrev pub overrideSettled : (ℕ → Bool) → List ℕ → Words.Settled → Words.Settled
 overrideSettled S d w = record { book = override S (w .book) d; fates = w .fates; gives = w .gives }
@@ -74,59 +67,30 @@ after {zs = zs} (goes p e r o) = record { pages = p ∷ zs; only = o; rep = r }
 
 module _ (S : ℕ → Bool) {n c : ℕ} {sh : Shape} (hn : n ≤ maxPages) (lim : Limits) (small : isMedium sh ≡ false) (h : ℕ) (ws : List ℕ) (once : distinct ws ≡ true)
     (b₀ : List ℕ) (s₀ : Setting n b₀ c sh) (rl₀ : RuleRep b₀ c lim) (d : List ℕ) (homes : All (λ w. PageIn S (pageAt w)) ws) where
-  Rest : List ℕ → Type 0
-  Rest gs =
-      (b : List ℕ) (t : Class) (zs : List Page) → Only c b₀ b → Home S n b c sh → Away n b c sh t zs → All (Waits sh ws b₀ t) gs
-      → settleChunks (override S b d) c sh h ws gs ≡ overrideSettled S d (settleChunks b c sh h ws gs)
-
-  abbrev chunk : List ℕ → ℕ → Released
-  chunk b q = chunkBackAt b c sh h q (map (indexOf sh q) (blocksOn b ws q))
-
-  abbrev thenAll : ℕ → Released → Words.Settled → Words.Settled
-  thenAll q r s = record { book = s .book; fates = r .fate ∷ s .fates; gives = givesOf q (r .fate) ++ s .gives }
-
-  step : (g : ℕ) (gs : List ℕ) → Rest gs → elem (pageOf g) (map pageOf gs) ≡ false → (b : List ℕ) (t : Class) (zs : List Page) → Only c b₀ b → Home S n b c sh → Away n b c sh t zs
-      → (wait : Waits sh ws b₀ t g) → All (Waits sh ws b₀ t) gs → (x : Option Site) → Located (startsAt (pageOf g)) t x → pageIn x ≡ some (wait .page)
-      → thenAll (pageOf g) (chunk (override S b d) (pageOf g)) (settleChunks (chunk (override S b d) (pageOf g) .book) c sh h ws gs)
-      ≡ overrideSettled S d (thenAll (pageOf g) (chunk b (pageOf g)) (settleChunks (chunk b (pageOf g) .book) c sh h ws gs))
-  unfolding Rest
-  step g gs rest new b t zs o hm r wait waits none y e = absurd (Option·none-ne-some (wait .page) e)
-  step g gs rest new b t zs o hm r wait waits (some x) y e =
-      let q = pageOf g in
-      let s = setting-kept b (o .long) s₀ in
-      let bs = Model.blocksOn sh ws (x .page) in
-      let ep : x .page ≡ wait .page = Option·some-injective (x .page) (wait .page) e in
-      let eq : x .page .first ≡ pageOf g = eqb-true (x .page .first) (pageOf g) (located-passes y) in
-      let eb : Model.blocksOn sh ws (x .page) ≡ blocksOn b ws (pageOf g)
-      = ap (Model.blocksOn sh ws) ep ∙ wait .blocks ∙ sym (blocks-kept b₀ b (start-kept c o) ws (pageOf g)) in
-      let y₁ = settle sh lim h true (Model.blocksOn sh ws (x .page)) x in
-      let pl = found-at {zs = zs} r y .placed in
-      let outs = every-blocks sh ws (x .page) in
-      let few = once-blocks sh ws once (x .page) in
-      let settled = settle-chunk s hn (only-rule c o c (s₀ .row) rl₀) h x pl (Model.blocksOn sh ws (x .page)) outs few small in
-      let settled₁ = subst (λ (z : ℕ). SettledRep n b c sh zs 6 z (chunkBackAt b c sh h z (map (indexOf sh z) bs)) y₁) eq settled in
-      let settled₂ = subst (λ (l : List ℕ). SettledRep n b c sh zs 6 q (chunkBackAt b c sh h q (map (indexOf sh q) l)) y₁) eb settled₁ in
-      let a = after settled₂ in
-      let one = chunk-local s hn hm h d x pl (Model.blocksOn sh ws (x .page)) outs few in
-      let one₁ = subst (λ (z : ℕ). chunkBackAt (override S b d) c sh h z (map (indexOf sh z) bs) ≡ overrideReleased S d (chunkBackAt b c sh h z (map (indexOf sh z) bs))) eq one in
-      let one₂ : chunkBackAt (override S b d) c sh h (pageOf g) (map (indexOf sh (pageOf g)) (blocksOn b ws (pageOf g))) ≡ overrideReleased S d (chunk b (pageOf g))
-      = subst (λ (l : List ℕ). chunkBackAt (override S b d) c sh h q (map (indexOf sh q) l) ≡ overrideReleased S d (chunkBackAt b c sh h q (map (indexOf sh q) l))) eb one₁ in
-      let ih = rest (chunk b q .book) (y₁ .class) (a .pages) (only-trans c o (a .only)) (home-only (a .only) hm) (a .rep)
-      (waits-next sh ws b₀ t (y₁ .class) q (λ z ne. settle-skips sh lim h y bs z (ap (λ v. eqb v z) eq ∙ ne)) gs new waits) in
-      ap (λ (l : List ℕ). thenAll q (chunkBackAt (override S b d) c sh h q (map (indexOf sh q) l)) (settleChunks (chunkBackAt (override S b d) c sh h q (map (indexOf sh q) l) .book) c sh h ws gs))
-      (blocks-in S b d q ws homes)
-      ∙ ap (λ (v : Released). thenAll q v (settleChunks (v .book) c sh h ws gs)) one₂
-      ∙ ap (thenAll q (chunk b q)) ih
+  step : {b : List ℕ} {t : Class} {zs : List Page} {g : ℕ} {gs : List ℕ} (f : First hn lim small h ws once b₀ s₀ rl₀ b t zs g gs) → Only c b₀ b → Home S n b c sh → Away n b c sh t zs
+      → (let m = backAt b c sh h ws (f .site) .book in settleChunks (override S m d) c sh h ws gs ≡ overrideSettled S d (settleChunks m c sh h ws gs))
+      → (let v = chunkBackAt b c sh h (pageOf g) (map (indexOf sh (pageOf g)) (blocksOn b ws (pageOf g))) in
+      let w = settleChunks (v .book) c sh h ws gs in
+      settleChunks (override S b d) c sh h ws (g ∷ gs) ≡ overrideSettled S d (record { book = w .book; fates = v .fate ∷ w .fates; gives = givesOf (pageOf g) (v .fate) ++ w .gives }))
+  unfolding settleChunks
+  step {b} {zs = zs} {g} f o hm r rest =
+      let p = f .site .page in
+      rw (
+        blocks-in S b d (pageOf g) ws homes,
+        f .blocks,
+        f .here,
+        chunk-local (setting-kept b (o .long) s₀) hn hm h d (f .site) (found-at {zs = zs} r (f .found) .placed) (Model.blocksOn sh ws p) (every-blocks sh ws p) (once-blocks sh ws once p),
+        rest,
+      )
 
   pub chunks-in : (gs : List ℕ) → distinct (map pageOf gs) ≡ true → (b : List ℕ) (t : Class) (zs : List Page) → Only c b₀ b → Home S n b c sh → Away n b c sh t zs → All (Waits sh ws b₀ t) gs
       → settleChunks (override S b d) c sh h ws gs ≡ overrideSettled S d (settleChunks b c sh h ws gs)
-  unfolding settleChunks Rest
+  unfolding settleChunks
   chunks-in [] e b t zs o hm r a = refl
   chunks-in (g ∷ gs) e b t zs o hm r a =
-      let new = not-true (elem (pageOf g) (map pageOf gs)) (and-left (not (elem (pageOf g) (map pageOf gs))) (distinct (map pageOf gs)) e) in
-      let others = and-right (not (elem (pageOf g) (map pageOf gs))) (distinct (map pageOf gs)) e in
-      step g gs (λ b t zs o hm r a. chunks-in gs others b t zs o hm r a) new b t zs o hm r (a .0) (a .1) (locate (startsAt (pageOf g)) t) (located (startsAt (pageOf g)) t)
-      (located-first (startsAt (pageOf g)) t ∙ a .0 .found)
+      let f = first-of hn lim small h ws once b₀ s₀ rl₀ g gs e b t zs o r a in
+      let k = after (f .settled) in
+      step f o hm r (chunks-in gs (f .others) _ _ (k .pages) (only-trans c o (k .only)) (home-only (k .only) hm) (k .rep) (f .waits))
 
 -- ---- the whole call, of a small class: its runs have one page
 one-page : (c : ℕ) → ltb c 64 ≡ true → (x y : ℕ) → x ≤ y → y < x + shapeOf c .pages → x ≡ y
@@ -135,18 +99,6 @@ one-page c e x y l u = let z : y < x + 1 = rw e at u in omega arith
 
 module _ {S : ℕ → Bool} (n : ℕ) (hn : n ≤ maxPages) (b : List ℕ) (H : Heap) (R : Represents n b H) (ok : Reached n H) (c : ℕ) (hs : ltb c 64 ≡ true) (hm : Home S n b c (shapeOf c)) (d : List ℕ)
     (H′ : Heap) (R′ : Represents n (override S b d) H′) (ok′ : Reached n H′) (et : H′ .classes c ≡ H .classes c) (h : ℕ) where
-  abbrev hc : ltb c 76 ≡ true
-  hc = small-class c hs
-
-  s : Setting n b c (shapeOf c)
-  s = setting-of n b H R c hc
-
-  s′ : Setting n (override S b d) c (shapeOf c)
-  s′ = setting-of n (override S b d) H′ R′ c hc
-
-  r′ : StateRep n (override S b d) c (shapeOf c) (H .classes c)
-  r′ = state-as R′ hc et
-
   -- the pages of blocks that are out
   home-of : (w : ℕ) → outAt n b c (shapeOf c) w ≡ true → PageIn S (pageAt w)
   unfolding outAt inRunOf
@@ -164,91 +116,14 @@ module _ {S : ℕ → Bool} (n : ℕ) (hn : n ≤ maxPages) (b : List ℕ) (H : 
       let t = outAt n b c (shapeOf c) in
       (home-of w (and-left (t w) (every t ws) o), homes-of ws (and-right (t w) (every t ws) o))
 
-  module _ (ws gs fs : List ℕ) where
-    abbrev fit : Bool
-    fit = distinct (map pageOf gs) && (every (Model.chunkFits (shapeOf c) (H .classes c) ws) gs && every (chunked (shapeOf c) (H .classes c) gs) ws)
-
-    abbrev ends : List ℕ → Words.ChunksReleased
-    ends b =
-        cond (not (chunksMatch b ws gs)) (chunksNone b fs 11)
-        (cond (not (chunksValid n b c (shapeOf c) gs)) (chunksNone b fs 13)
-        (let w = settleChunks b c (shapeOf c) h ws gs in record { code = 0; book = giveRuns (w .book) (shapeOf c .pages) (w .gives); fates = w .fates ++ drop (length gs) fs }))
-
-    reached : (isNil ws || isNil gs) ≡ false → (ltb chunksMax (length gs) || ltb (length fs) (length gs)) ≡ false → (every (ofKind (shapeOf c .kind)) ws && every (ofKind chunkKind) gs) ≡ true
-        → repeats (shapeOf c) (H .classes c) ws ≡ false → every (outHere (shapeOf c) (H .classes c)) ws ≡ true → fit ≡ true
-        → Model.releaseChunks (shapeOf c) (H .rules c) h (H .classes c) ws gs fs
-        ≡ (let x = Model.settleChunks (shapeOf c) (H .rules c) h ws (H .classes c) gs in done (record { class = x .class; answer = fates (x .fates ++ drop (length gs) fs); gives = x .gives }))
-    unfolding Model.releaseChunks
-    reached e₁ e₂ e₃ e₄ e₅ u = rw (e₁, e₂, e₃, e₄, e₅, u)
-
-    module _ (k : every (ofKind (shapeOf c .kind)) ws ≡ true) (o : every (outHere (shapeOf c) (H .classes c)) ws ≡ true) (once : distinct ws ≡ true) where
-      outs : every (outAt n b c (shapeOf c)) ws ≡ true
-      outs = outs-here s hn (H .classes c) (R .classes c hc) ws k ∙ o
-
-      outs′ : every (outAt n (override S b d) c (shapeOf c)) ws ≡ true
-      outs′ = outs-here s′ hn (H .classes c) r′ ws k ∙ o
-
-      fitting : fit ≡ true → every (Model.chunkFits (shapeOf c) (H .classes c) ws) gs ≡ true
-      fitting u =
-          let t₁ = distinct (map pageOf gs) in
-          let t₂ = every (Model.chunkFits (shapeOf c) (H .classes c) ws) gs in
-          let t₃ = every (chunked (shapeOf c) (H .classes c) gs) ws in
-          and-left t₂ t₃ (and-right t₁ (t₂ && t₃) u)
-
-      apart : fit ≡ true → distinct (map pageOf gs) ≡ true
-      apart u = and-left (distinct (map pageOf gs)) (every (Model.chunkFits (shapeOf c) (H .classes c) ws) gs && every (chunked (shapeOf c) (H .classes c) gs) ws) u
-
-      given-local : fit ≡ true → (Model.settleChunks (shapeOf c) (H .rules c) h ws (H .classes c) gs .gives ≡ []) ⊎ Roams S H c
-          → (let w = settleChunks b c (shapeOf c) h ws gs in giveRuns (override S (w .book) d) (shapeOf c .pages) (w .gives) ≡ override S (giveRuns (w .book) (shapeOf c .pages) (w .gives)) d)
-      given-local u (inl z) =
-          let w = all-settled n hn b H R ok c hs ws k outs once h gs (fitting u) (apart u) in
-          rw (w .gives ∙ z)
-      given-local u (inr a) =
-          let w = all-settled n hn b H R ok c hs ws k outs once h gs (fitting u) (apart u) in
-          let x = Model.settleChunks (shapeOf c) (H .rules c) h ws (H .classes c) gs in
-          rw (w .gives) (all-local n b H R ok c hc (settleChunks b c (shapeOf c) h ws gs .book) (w .only) (x .class) (w .pages) (w .rep) (a .arena) d (a .kin) (x .gives) (w .named))
-
-      acts-local : fit ≡ true → (Model.settleChunks (shapeOf c) (H .rules c) h ws (H .classes c) gs .gives ≡ []) ⊎ Roams S H c
-          → (let w = settleChunks b c (shapeOf c) h ws gs in let w′ = settleChunks (override S b d) c (shapeOf c) h ws gs in
-          giveRuns (w′ .book) (shapeOf c .pages) (w′ .gives) ≡ override S (giveRuns (w .book) (shapeOf c .pages) (w .gives)) d)
-      acts-local u a =
-          rw (chunks-in S hn (H .rules c) (small-shape c hs) h ws once b s (R .rules c hc) d (homes-of ws outs) gs (apart u) b (H .classes c) [] (changes-none (ofClass b c) b) hm (R .classes c hc)
-          (all-wait n hn b H R ok c hs ws k outs once gs (fitting u)))
-          (given-local u a)
-
-      ends-local : (fit ≡ true → (Model.settleChunks (shapeOf c) (H .rules c) h ws (H .classes c) gs .gives ≡ []) ⊎ Roams S H c) → ends (override S b d) .book ≡ override S (ends b .book) d
-      ends-local a =
-          rw (chunks-same s hn (H .classes c) (R .classes c hc) ws k outs gs, chunks-same s′ hn (H .classes c) r′ ws k outs′ gs)
-          (by-cases fit
-          (λ u. rw (u, chunks-valid n hn b H R ok c hs ws k outs once h gs (fitting u) (apart u), valid′ u) (acts-local u (a u)))
-          (λ u. rw u))
-        where
-          valid′ : fit ≡ true → chunksValid n (override S b d) c (shapeOf c) gs ≡ true
-          valid′ u = chunks-valid n hn (override S b d) H′ R′ ok′ c hs ws k outs′ once h gs (rw et (fitting u)) (apart u)
-
-    pub group-local : StaysHome (Model.releaseChunks (shapeOf c) (H .rules c) h (H .classes c) ws gs fs) ⊎ Roams S H c
-        → releaseChunks n (override S b d) c (shapeOf c) h ws gs fs .book ≡ override S (releaseChunks n b c (shapeOf c) h ws gs fs .book) d
-    unfolding releaseChunks
-    group-local a =
-        let sh = shapeOf c in
-        let t = H .classes c in
-        let k₁ = every (ofKind (shapeOf c .kind)) ws in
-        let k₂ = every (ofKind chunkKind) gs in
-        by-cases (isNil ws || isNil gs) (λ e. rw e)
-        (λ e₁. by-cases (ltb chunksMax (length gs) || ltb (length fs) (length gs)) (λ e. rw (e₁, e))
-        (λ e₂. by-cases (every (ofKind (shapeOf c .kind)) ws && every (ofKind chunkKind) gs)
-        (λ e₃. let k = and-left k₁ k₂ e₃ in
-        rw (e₁, e₂, e₃, fault-same s hn (H .classes c) (R .classes c hc) ws k, fault-same s′ hn (H .classes c) r′ ws k)
-        (by-cases (repeats (shapeOf c) (H .classes c) ws) (λ e₄. rw e₄)
-        (λ e₄. by-cases (every (outHere (shapeOf c) (H .classes c)) ws)
-        (λ e₅. rw (e₄, e₅) (ends-local k e₅ (once-here sh t ws e₄ e₅) (allowed e₁ e₂ e₃ e₄ e₅ a)))
-        (λ e₅. rw (e₄, e₅)))))
-        (λ e₃. rw (e₁, e₂, e₃))))
-      where
-        allowed : (isNil ws || isNil gs) ≡ false → (ltb chunksMax (length gs) || ltb (length fs) (length gs)) ≡ false → (every (ofKind (shapeOf c .kind)) ws && every (ofKind chunkKind) gs) ≡ true
-            → repeats (shapeOf c) (H .classes c) ws ≡ false → every (outHere (shapeOf c) (H .classes c)) ws ≡ true → StaysHome (Model.releaseChunks (shapeOf c) (H .rules c) h (H .classes c) ws gs fs) ⊎ Roams S H c
-            → fit ≡ true → (Model.settleChunks (shapeOf c) (H .rules c) h ws (H .classes c) gs .gives ≡ []) ⊎ Roams S H c
-        allowed e₁ e₂ e₃ e₄ e₅ (inl z) u =
-            let x = Model.settleChunks (shapeOf c) (H .rules c) h ws (H .classes c) gs in
-            inl (home-gives (record { class = x .class; answer = fates (x .fates ++ drop (length gs) fs); gives = x .gives }) z (reached e₁ e₂ e₃ e₄ e₅ u))
-        allowed e₁ e₂ e₃ e₄ e₅ (inr z) u = inr z
+  pub group-local : (ws gs fs : List ℕ) → StaysHome (Model.releaseChunks (shapeOf c) (H .rules c) h (H .classes c) ws gs fs) ⊎ Roams S H c
+      → releaseChunks n (override S b d) c (shapeOf c) h ws gs fs .book ≡ override S (releaseChunks n b c (shapeOf c) h ws gs fs .book) d
+  group-local ws gs fs =
+      let hc = small-class c hs in
+      let B : Stands n b c (H .classes c) = stands R ok (small-class c hs) refl in
+      chunks-tests hn h B (stands R′ ok′ hc et) hs (H .rules c) ws gs fs
+      (λ w w′ q. StaysHome q ⊎ Roams S H c → w′ .book ≡ override S (w .book) d) (λ k u a. refl)
+      (λ k o once fits apart a.
+      rw (chunks-in S hn (H .rules c) (small-shape c hs) h ws once b (setting B) (R .rules c hc) d (homes-of ws o) gs apart b (H .classes c) [] (changes-none (ofClass b c) b) hm (R .classes c hc)
+      (all-wait hn B hs ws k o once gs fits))
+      (runs-local B d (chunks-acts hn B hs ws k o once h gs fits apart fs) a))

@@ -1,12 +1,13 @@
 -- Runs that wait in no list go to the arena one after the other: the whole book stands for the model's heap.
+--     Acts          what a class's call settled, and the runs that it gives
 --     all-given     the book after the gives
 --     all-held      so many pages are held before them
 use Prim.Native.Nat.{ℕ, _+_, _*_, _≤_}
 use native.Mathlib.Omega.{arith}
-use mathlib.Core.Bool.{true, cond}
+use mathlib.Core.Bool.{cond}
 use mathlib.Core.List.{List, [], _∷_, _++_}
-use mathlib.Core.Path.{_≡_, refl, subst, fun-ext}
-use lib.Dec.{eqb, ltb}
+use mathlib.Core.Path.{_≡_, refl, sym, subst, fun-ext}
+use lib.Dec.{eqb}
 use lib.ListN.{length}
 use borrow.Author.Tests.{eq-eqb, eqb-true, eqb-false, ne-eqb}
 use Rattle.facts.specs.Lists.{update}
@@ -16,17 +17,18 @@ use Rattle.classes.specs.Shape.{shapeOf}
 use Rattle.classes.proofs.Shapes.{shape-sound}
 use Rattle.fields.proofs.Changes.{changes-none}
 use Rattle.model.specs.Page.{Page}
-use Rattle.model.specs.Class.{Class, lists}
+use Rattle.model.specs.Class.{Class, Result, lists}
 use Rattle.model.specs.Arena.{give, giveAll}
-use Rattle.model.specs.Heap.{Heap, Holder, nobody, isHeld, passTo, heldPages}
+use Rattle.model.specs.Heap.{Holder, nobody, isHeld, passTo, heldPages}
 use Rattle.arena.specs.Calls.{given}
 use Rattle.calls.specs.Chunks.{giveRuns}
-use Rattle.refinement.specs.way.Represents.{firsts, StateRep, Represents}
+use Rattle.refinement.specs.way.Represents.{firsts, Represents}
 use Rattle.refinement.proofs.Frames.{ofClass, Only}
-use Rattle.refinement.proofs.ArenaReached.{Reached, heapOf, reached-classes, reached-give}
+use Rattle.refinement.proofs.ArenaReached.{heapOf, reached-classes, reached-give}
 use Rattle.refinement.proofs.ArenaHeld.{held-less}
 use Rattle.refinement.proofs.ArenaSteps.{rep-classes}
-use Rattle.refinement.proofs.Book.{classes-with, represents-class}
+use Rattle.refinement.proofs.Book.{classes-with, represents-class, Stands, state-rep}
+use Rattle.refinement.proofs.Found.{Away}
 use Rattle.refinement.proofs.GiveRep.{run-ends}
 use Rattle.refinement.proofs.GiveClass.{run-held, give-represents}
 
@@ -46,94 +48,90 @@ passed-twice a d o =
 updated-twice : (f : ℕ → Class) (c : ℕ) (x y : Class) → update (update f c x) c y ≡ update f c y
 updated-twice f c x y = fun-ext (λ d. by-cases (eqb d c) (λ e. rw e) (λ e. rw e))
 
-module _ (n c : ℕ) (hc : ltb c 76 ≡ true) where
-  -- a heap whose class c has a page that waits
-  module _ (p : Page) (s : Class) (b : List ℕ) (H : Heap) (ok : Reached n H) (R : Represents n b H) (e : H .classes c ≡ waiting s (p ∷ [])) where
-    pub state : StateRep n b c (shapeOf c) (waiting s (p ∷ []))
-    state = subst (λ (t : Class). StateRep n b c (shapeOf c) t) e (R .classes c hc)
+module _ {n c : ℕ} where
+  -- a class that has a page that waits, before and after it is given
+  module _ (p : Page) (s : Class) {b : List ℕ} (B : Stands n b c (waiting s (p ∷ []))) where
+    pub held : (x : ℕ) → covers (shapeOf c .pages) (p .first) x ≤ isHeld (B .heap .holder x)
+    held = run-held n b (B .heap) (B .represents .arena) (shapeOf c) c (p .first) (state-rep B .fulls .0 .holds .run)
 
-    held : (x : ℕ) → covers (shapeOf c .pages) (p .first) x ≤ isHeld (H .holder x)
-    held = run-held n b H (R .arena) (shapeOf c) c (p .first) (state .fulls .0 .holds .run)
+    unfoldable pub next : Stands n (given b (p .first) (shapeOf c .pages)) c s
+    next =
+        let H = B .heap in
+        let m = shapeOf c .pages in
+        record {
+          heap = heapOf (H .rules) (give m (p .first) (H .arena)) (passTo nobody (covers m (p .first)) (H .holder)) (update (H .classes) c s);
+          represents = give-represents n b H (B .represents) (B .reached) c (B .row) b (changes-none (ofClass b c) b) s p (state-rep B);
+          reached = reached-give n H (B .reached) (p .first) m (shape-sound c .paged) held (update (H .classes) c s);
+          row = B .row;
+          state = rw (eq-eqb c c refl);
+        }
 
-    unfoldable pub next : Heap
-    next = heapOf (H .rules) (give (shapeOf c .pages) (p .first) (H .arena)) (passTo nobody (covers (shapeOf c .pages) (p .first)) (H .holder)) (update (H .classes) c s)
-
-    pub next-reached : Reached n next
-    unfolding next
-    next-reached = reached-give n H ok (p .first) (shapeOf c .pages) (shape-sound c .paged) held (update (H .classes) c s)
-
-    pub next-represents : Represents n (given b (p .first) (shapeOf c .pages)) next
-    unfolding next
-    next-represents = give-represents n b H R ok c hc b (changes-none (ofClass b c) b) s p state
-
-    pub next-class : next .classes c ≡ s
-    unfolding next
-    next-class = rw (eq-eqb c c refl)
-
-    next-held : heldPages n H ≡ heldPages n next + shapeOf c .pages
+    next-held : heldPages n (B .heap) ≡ heldPages n (next .heap) + shapeOf c .pages
     unfolding next
     next-held =
         let m = shapeOf c .pages in
-        held-less n (p .first) m (H .holder) (omega (arith, run-ends n b H (R .arena) ok (p .first) (shapeOf c .pages) (shape-sound c .paged) held, ok .bound)) held
+        held-less n (p .first) m (B .heap .holder)
+        (omega (arith, run-ends n b (B .heap) (B .represents .arena) (B .reached) (p .first) (shapeOf c .pages) (shape-sound c .paged) held, B .reached .bound)) held
 
-  gives-held : (ps : List Page) (s : Class) (b : List ℕ) (H : Heap) → Reached n H → Represents n b H → H .classes c ≡ waiting s ps
-      → length ps * shapeOf c .pages ≤ heldPages n H
-  gives-held [] s b H ok R e = omega arith
-  gives-held (p ∷ ps) s b H ok R e =
-      let t = waiting s ps in
-      let m = shapeOf c .pages in
-      let ih = gives-held ps s (given b (p .first) (shapeOf c .pages)) (next p (waiting s ps) b H ok R e) (next-reached p t b H ok R e) (next-represents p t b H ok R e) (next-class p t b H ok R e) in
-      omega (arith, next-held p (waiting s ps) b H ok R e)
+  gives-held : (ps : List Page) (s : Class) {b : List ℕ} (B : Stands n b c (waiting s ps)) → length ps * shapeOf c .pages ≤ heldPages n (B .heap)
+  gives-held [] s B = omega arith
+  gives-held (p ∷ ps) s B = let ih = gives-held ps s (next p (waiting s ps) B) in omega (arith, next-held p (waiting s ps) B)
 
-  gives-represent : (ps : List Page) (s : Class) (b : List ℕ) (H : Heap) → Reached n H → Represents n b H → H .classes c ≡ waiting s ps
-      → Represents n (giveRuns b (shapeOf c .pages) (firsts ps))
-      (heapOf (H .rules) (giveAll (shapeOf c .pages) (firsts ps) (H .arena)) (passTo nobody (coversAll (shapeOf c .pages) (firsts ps)) (H .holder)) (update (H .classes) c s))
+  gives-represent : (ps : List Page) (s : Class) {b : List ℕ} (B : Stands n b c (waiting s ps))
+      → (let H = B .heap in
+      Represents n (giveRuns b (shapeOf c .pages) (firsts ps))
+      (heapOf (H .rules) (giveAll (shapeOf c .pages) (firsts ps) (H .arena)) (passTo nobody (coversAll (shapeOf c .pages) (firsts ps)) (H .holder)) (update (H .classes) c s)))
   unfolding next
-  gives-represent [] s b H ok R e = record {
-    arena = rep-classes n b H (update (H .classes) c s) (R .arena);
-    classes = classes-with n b H c s (subst (λ (t : Class). StateRep n b c (shapeOf c) t) e (R .classes c hc)) (λ d hd ne. R .classes d hd);
-    rules = R .rules;
+  gives-represent [] s {b} B = record {
+    arena = rep-classes n b (B .heap) (update (B .heap .classes) c s) (B .represents .arena);
+    classes = classes-with n b (B .heap) c s (state-rep B) (λ d hd ne. B .represents .classes d hd);
+    rules = B .represents .rules;
   }
-  gives-represent (p ∷ ps) s b H ok R e =
-      let t = waiting s ps in
+  gives-represent (p ∷ ps) s {b} B =
+      let H = B .heap in
       let m = shapeOf c .pages in
       let qs = firsts ps in
-      let b₁ = given b (p .first) (shapeOf c .pages) in
-      let a₁ = giveAll (shapeOf c .pages) (firsts ps) (give (shapeOf c .pages) (p .first) (H .arena)) in
-      let w₁ = passTo nobody (coversAll (shapeOf c .pages) (firsts ps)) (passTo nobody (covers (shapeOf c .pages) (p .first)) (H .holder)) in
-      let ih = gives-represent ps s b₁ (next p (waiting s ps) b H ok R e) (next-reached p t b H ok R e) (next-represents p t b H ok R e) (next-class p t b H ok R e) in
+      let b₁ = given b (p .first) m in
+      let a₁ = giveAll m qs (give m (p .first) (H .arena)) in
+      let w₁ = passTo nobody (coversAll m qs) (passTo nobody (covers m (p .first)) (H .holder)) in
       subst (λ (w : ℕ → Holder). Represents n (giveRuns b₁ m qs) (heapOf (H .rules) a₁ w (update (H .classes) c s)))
       (fun-ext (λ x. passed-twice (covers m (p .first) x) (coversAll m qs x) (H .holder x)))
-      (subst (λ (f : ℕ → Class). Represents n (giveRuns b₁ m qs) (heapOf (H .rules) a₁ w₁ f)) (updated-twice (H .classes) c (waiting s ps) s) ih)
+      (subst (λ (f : ℕ → Class). Represents n (giveRuns b₁ m qs) (heapOf (H .rules) a₁ w₁ f)) (updated-twice (H .classes) c (waiting s ps) s) (gives-represent ps s (next p (waiting s ps) B)))
 
--- ---- after a call changed words of class c only, which is left with the pages ps that go to the arena; qs are their runs
-module _ (n : ℕ) (b : List ℕ) (H : Heap) (R : Represents n b H) (ok : Reached n H) (c : ℕ) (hc : ltb c 76 ≡ true) (b′ : List ℕ) (only : Only c b b′) (s : Class) (ps : List Page)
-    (rep : StateRep n b′ c (shapeOf c) (waiting s ps)) where
-  unfoldable pub left : Heap
-  left = heapOf (H .rules) (H .arena) (H .holder) (update (H .classes) c (waiting s ps))
+-- ---- after a call changed words of class c only: what it settled, and the runs for the arena, as the model has them
+pub record Acts (n : ℕ) (b : List ℕ) (c : ℕ) (settled runs : List ℕ) (r : Result) : Type 0 where
+  pub pages : List Page
+  pub rep : Away n settled c (shapeOf c) (r .class) pages
+  pub only : Only c b settled
+  pub gives : runs ≡ r .gives
+  pub named : firsts pages ≡ r .gives
 
-  pub left-represents : Represents n b′ left
+module _ {n : ℕ} {b : List ℕ} {c : ℕ} {t : Class} (B : Stands n b c t) {settled runs : List ℕ} {r : Result} (a : Acts n b c settled runs r) where
+  -- before the gives
+  unfoldable pub left : Stands n settled c (waiting (r .class) (a .pages))
+  left =
+      let H = B .heap in
+      let cs = update (H .classes) c (waiting (r .class) (a .pages)) in
+      record {
+        heap = heapOf (H .rules) (H .arena) (H .holder) cs;
+        represents = represents-class n b H (B .represents) (B .reached) settled c (waiting (r .class) (a .pages)) (a .only) (a .rep);
+        reached = reached-classes n H (B .reached) cs;
+        row = B .row;
+        state = rw (eq-eqb c c refl);
+      }
+
+  pub all-held : length (a .pages) * shapeOf c .pages ≤ heldPages n (B .heap)
   unfolding left
-  left-represents = represents-class n b H R ok b′ c (waiting s ps) only rep
+  all-held = gives-held (a .pages) (r .class) left
 
-  pub left-reached : Reached n left
-  unfolding left
-  left-reached = reached-classes n H ok (update (H .classes) c (waiting s ps))
-
-  pub left-class : left .classes c ≡ waiting s ps
-  unfolding left
-  left-class = rw (eq-eqb c c refl)
-
-  pub all-held : length ps * shapeOf c .pages ≤ heldPages n H
-  unfolding left
-  all-held = gives-held n c hc ps s b′ left left-reached left-represents left-class
-
-  pub all-given : (qs : List ℕ) → firsts ps ≡ qs
-      → Represents n (giveRuns b′ (shapeOf c .pages) qs)
-      (heapOf (H .rules) (giveAll (shapeOf c .pages) qs (H .arena)) (passTo nobody (coversAll (shapeOf c .pages) qs) (H .holder)) (update (H .classes) c s))
-  unfolding left
-  all-given qs e =
+  pub all-given : (let H = B .heap in
       let m = shapeOf c .pages in
-      subst (λ (l : List ℕ). Represents n (giveRuns b′ m l) (heapOf (H .rules) (giveAll m l (H .arena)) (passTo nobody (coversAll m l) (H .holder)) (update (H .classes) c s))) e
-      (subst (λ (f : ℕ → Class). Represents n (giveRuns b′ m (firsts ps)) (heapOf (H .rules) (giveAll m (firsts ps) (H .arena)) (passTo nobody (coversAll m (firsts ps)) (H .holder)) f))
-      (updated-twice (H .classes) c (waiting s ps) s) (gives-represent n c hc ps s b′ left left-reached left-represents left-class))
+      Represents n (giveRuns settled m runs) (heapOf (H .rules) (giveAll m (r .gives) (H .arena)) (passTo nobody (coversAll m (r .gives)) (H .holder)) (update (H .classes) c (r .class))))
+  unfolding left
+  all-given =
+      let H = B .heap in
+      let m = shapeOf c .pages in
+      let qs = firsts (a .pages) in
+      rw (a .gives, sym (a .named))
+      (subst (λ (f : ℕ → Class). Represents n (giveRuns settled m qs) (heapOf (H .rules) (giveAll m qs (H .arena)) (passTo nobody (coversAll m qs) (H .holder)) f))
+      (updated-twice (H .classes) c (waiting (r .class) (a .pages)) (r .class)) (gives-represent (a .pages) (r .class) left))

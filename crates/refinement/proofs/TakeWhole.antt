@@ -3,13 +3,13 @@
 --     take-new       a take that asks the arena, with a run or none
 --     take-whole     every take, refused or not, from any source
 --     take-after     the same after any history
-use Prim.Native.Nat.{ℕ, zero, suc, _+_, _≤_}
+use Prim.Native.Nat.{ℕ, zero, suc, _≤_}
 use native.Mathlib.Omega.{arith}
 use mathlib.Core.Bool.{Bool, true, false, not, _||_}
 use mathlib.Core.List.{List, [], _∷_, _++_}
 use mathlib.Core.Option.{Option, none, some}
 use mathlib.Core.Path.{_≡_, refl, sym, subst}
-use lib.Dec.{eqb, ltb}
+use lib.Dec.{ltb}
 use lib.ListN.{length}
 use borrow.Author.Tests.{lt-ltb}
 use Rattle.facts.specs.Lists.{isNil, update}
@@ -25,17 +25,16 @@ use Rattle.model.specs.Page as Page
 use Rattle.model.specs.Page.{Page, isMedium, wordsFrom, carve, carveAs}
 use Rattle.model.specs.Arena.{commit, Given}
 use Rattle.model.specs.Class as Model
-use Rattle.model.specs.Class.{lists, Result, Ask, done, asks, refuse, fillFromList, served}
+use Rattle.model.specs.Class.{lists, Ask, asks, fillFromList, served}
 use Rattle.model.specs.Chunks.{answer}
 use Rattle.model.specs.Heap.{Heap, class, passTo, offer, finish, interact, classCall, Outcome}
 use Rattle.model.specs.History.{heapAfter}
 use Rattle.model.specs.Yields.{Listed}
 use Rattle.model.proofs.Yields.{yielding}
-use Rattle.fields.proofs.Changes.{changes-none}
 use Rattle.pages.specs.declared.Park.the-variants.{Empty}
 use Rattle.pages.specs.Links.{link}
 use Rattle.pages.specs.Carve.{newRun}
-use Rattle.calls.specs.Take.{Took, tookNone, fillFrom, onRun, takeNew, takeCall}
+use Rattle.calls.specs.Take.{Took, fillFrom, onRun, takeNew, takeCall}
 use Rattle.arena.specs.Calls.{commitBook}
 use Rattle.refinement.proofs.GiveClass.{arena-only}
 use Rattle.refinement.specs.way.Represents.{ClassRep, Represents}
@@ -44,13 +43,15 @@ use Rattle.refinement.specs.Direct.{Agrees}
 use Rattle.refinement.proofs.ArenaReached.{Reached, heapOf, reached-after}
 use Rattle.refinement.proofs.CommitRep.{commit-for}
 use Rattle.refinement.proofs.Basics.{Setting, setting-kept}
-use Rattle.refinement.proofs.Frames.{ofClass, Only, only-trans, only-rule}
+use Rattle.refinement.proofs.Frames.{Only, only-trans, only-rule}
 use Rattle.refinement.proofs.Kept.{class-beside}
 use Rattle.refinement.proofs.Moves.{to-partial, link-only}
 use Rattle.refinement.proofs.Fill.{FillRep, fills}
-use Rattle.refinement.proofs.Take.{TookRep, TakeRep, did, asked, take-own}
+use Rattle.refinement.proofs.Take.{TakeRep, did, asked, take-own}
 use Rattle.refinement.proofs.Pushes.{carve-first}
-use Rattle.refinement.proofs.Book.{setting-of, frontier-in, classes-with, represents-class}
+use Rattle.refinement.proofs.Book.{setting-of, frontier-in, classes-with, stands}
+use Rattle.refinement.proofs.Releases as Releases
+use Rattle.refinement.proofs.Releases.{denied, ends-agree}
 use Rattle.refinement.proofs.Join.{none-arena, none-rule, none-stays, new-rule, new-setting, new-arena, new-reached, others-stay, class-joins}
 
 -- a run just carved has a block
@@ -144,25 +145,11 @@ module _ (n : ℕ) (b : List ℕ) (H : Heap) (R : Represents n b H) (ok : Reache
     unfolding takeNew interact offer
     take-new = rw (commit-for n b H (R .arena) ok h (shapeOf c .pages) (suc c)) (given-agrees (grant .run) refl)
 
-  -- ---- a take that is over
-  over : (h : ℕ) (w : Took) (x : Result) → TookRep n b c (shapeOf c) w x → Agrees (Represents n) (takeReply w) (interact n H c h (done x))
-  unfolding interact offer finish
-  over h w x k = record {
-    answer = rw (k .code) (sym (k .answer));
-    valid = λ e. omega (arith, k .code);
-    heap = rw (k .gives) (represents-class n b H R ok (w .book) c (x .class) (k .only) (k .rep));
-  }
-
-  turned : (h : ℕ) (l : List ℕ) (k : ℕ) → eqb k 0 ≡ false → (k ≡ 13 → ⊥) → Agrees (Represents n) (takeReply (tookNone b l k)) (interact n H c h (refuse (H .classes c) k))
-  unfolding interact offer finish
-  turned h l k e ne = record {
-    answer = rw e;
-    valid = ne;
-    heap = represents-class n b H R ok b c (H .classes c) (changes-none (ofClass b c) b) (R .classes c hc);
-  }
-
+  -- ---- any take
   own-agrees : (h : ℕ) (l : List ℕ) (w : Took) (q : Ask) → TakeRep n b c (shapeOf c) h l w q → Agrees (Represents n) (takeReply w) (interact n H c h q)
-  own-agrees h l w q (did {x = x} k) = over h w x k
+  own-agrees h l w q (did k) =
+      ends-agree (stands R ok hc refl) h
+      (rw (k .code, sym (k .answer)) (Releases.did (record { pages = []; rep = k .rep; only = k .only; gives = sym (k .gives); named = sym (k .gives) })))
   own-agrees h l w q (asked fs z) = take-new h l fs z
 
   pub take-whole : Listed (shapeOf c) (H .classes c) → (h : ℕ) (l : List ℕ)
@@ -170,7 +157,7 @@ module _ (n : ℕ) (b : List ℕ) (H : Heap) (R : Represents n b H) (ok : Reache
   unfolding takeCall classCall answer
   take-whole y h l =
       by-cases (ltb (length l) (shapeOf c .batch))
-      (λ u. rw u (turned h l 5 refl (λ z. omega arith)))
+      (λ u. rw u (ends-agree (stands R ok hc refl) h (denied 5 (Calls.refused 5) refl)))
       (λ u. rw u (own-agrees h l _ _
       (take-own (setting-of n b H R c hc) l h (H .classes c .partial) (H .classes c .empty) (H .classes c .cold) (H .classes c .full)
       (frontier-in n b H R ok) (y .partial) (R .classes c hc))))
