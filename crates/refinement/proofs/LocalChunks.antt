@@ -56,14 +56,10 @@ blocks-in S b d q [] a = refl
 blocks-in S b d q (w ∷ ws) a = rw (get-page (a .0) b d first, blocks-in S b d q ws (a .1))
 
 -- what settling one page leaves for the next
-record After (n : ℕ) (b : List ℕ) (c : ℕ) (sh : Shape) (v : Released) (y : Settled) : Type 0 where
-  pages : List Page
-  only : Only c b (v .book)
-  rep : Away n (v .book) c sh (y .class) pages
-
-after : {n : ℕ} {b : List ℕ} {c : ℕ} {sh : Shape} {zs : List Page} {k q : ℕ} {v : Released} {y : Settled} → SettledRep n b c sh zs k q v y → After n b c sh v y
-after {zs = zs} (stays ne r o) = record { pages = zs; only = o; rep = r }
-after {zs = zs} (goes p e r o) = record { pages = p ∷ zs; only = o; rep = r }
+then-next : {P : Type 0} {n : ℕ} {b : List ℕ} {c : ℕ} {sh : Shape} {zs : List Page} {k q : ℕ} {v : Released} {y : Settled} → SettledRep n b c sh zs k q v y
+    → ((zs′ : List Page) → Only c b (v .book) → Away n (v .book) c sh (y .class) zs′ → P) → P
+then-next {zs = zs} (stays ne r o) f = f zs o r
+then-next {zs = zs} (goes p e r o) f = f (p ∷ zs) o r
 
 module _ (S : ℕ → Bool) {n c : ℕ} {sh : Shape} (hn : n ≤ maxPages) (lim : Limits) (small : isMedium sh ≡ false) (h : ℕ) (ws : List ℕ) (once : distinct ws ≡ true)
     (b₀ : List ℕ) (s₀ : Setting n b₀ c sh) (rl₀ : RuleRep b₀ c lim) (d : List ℕ) (homes : All (λ w. PageIn S (pageAt w)) ws) where
@@ -89,8 +85,7 @@ module _ (S : ℕ → Bool) {n c : ℕ} {sh : Shape} (hn : n ≤ maxPages) (lim 
   chunks-in [] e b t zs o hm r a = refl
   chunks-in (g ∷ gs) e b t zs o hm r a =
       let f = first-of hn lim small h ws once b₀ s₀ rl₀ g gs e b t zs o r a in
-      let k = after (f .settled) in
-      step f o hm r (chunks-in gs (f .others) _ _ (k .pages) (only-trans c o (k .only)) (home-only (k .only) hm) (k .rep) (f .waits))
+      step f o hm r (then-next (f .settled) (λ zs′ o′ r′. chunks-in gs (f .others) _ _ zs′ (only-trans c o o′) (home-only o′ hm) r′ (f .waits)))
 
 -- ---- the whole call, of a small class: its runs have one page
 one-page : (c : ℕ) → ltb c 64 ≡ true → (x y : ℕ) → x ≤ y → y < x + shapeOf c .pages → x ≡ y
