@@ -9,8 +9,6 @@ use line::Numbers;
 use line::Words;
 use vigbuso::release_calls::vigbuso_medium_release_blocks;
 use vigbuso::release_calls::vigbuso_release_blocks;
-use vigbuso::take_calls::vigbuso_medium_take_blocks;
-use vigbuso::take_calls::vigbuso_take_blocks;
 ghost use mathlib.Core.Path.{_≡_};
 ghost use lib.ListN.{length};
 
@@ -31,16 +29,36 @@ fn open(
     answers
 }
 
-fn take_blocks(meta: &mut [u32], words: &Words, medium: bool, mut answers: Numbers) -> Numbers {
+fn take_blocks(meta: &mut [u32], words: &Words, mut answers: Numbers) -> Numbers {
     let mut count = line::low(answers[1]);
     let mut virgin = line::low(answers[2]);
     let e = line::end(3, words[3], 4096);
-    let list = &mut answers[3..e];
-    let code = if medium {
-        vigbuso_medium_take_blocks(meta, words[1], words[2], list, &mut count, &mut virgin)
-    } else {
-        vigbuso_take_blocks(meta, words[1], words[2], list, &mut count, &mut virgin)
-    };
+    let code = vigbuso::take_calls::vigbuso_take_blocks(
+        meta,
+        words[1],
+        words[2],
+        &mut answers[3..e],
+        &mut count,
+        &mut virgin,
+    );
+    answers[0] = line::wide(code);
+    answers[1] = line::wide(count);
+    answers[2] = line::wide(virgin);
+    answers
+}
+
+fn medium_take_blocks(meta: &mut [u32], words: &Words, mut answers: Numbers) -> Numbers {
+    let mut count = line::low(answers[1]);
+    let mut virgin = line::low(answers[2]);
+    let e = line::end(3, words[3], 4096);
+    let code = vigbuso::take_calls::vigbuso_medium_take_blocks(
+        meta,
+        words[1],
+        words[2],
+        &mut answers[3..e],
+        &mut count,
+        &mut virgin,
+    );
     answers[0] = line::wide(code);
     answers[1] = line::wide(count);
     answers[2] = line::wide(virgin);
@@ -51,17 +69,27 @@ fn release_blocks(
     meta: &mut [u32],
     line: &Numbers,
     words: &Words,
-    medium: bool,
     mut answers: Numbers,
 ) -> Numbers {
     let mut fate = line::low(answers[1]);
     let e = line::end(4, words[3], 4096);
     let w = &line[..];
-    let code = if medium {
-        vigbuso_medium_release_blocks(meta, words[1], words[2], &w[4..e], &mut fate)
-    } else {
-        vigbuso_release_blocks(meta, words[1], words[2], &w[4..e], &mut fate)
-    };
+    let code = vigbuso_release_blocks(meta, words[1], words[2], &w[4..e], &mut fate);
+    answers[0] = line::wide(code);
+    answers[1] = line::wide(fate);
+    answers
+}
+
+fn medium_release_blocks(
+    meta: &mut [u32],
+    line: &Numbers,
+    words: &Words,
+    mut answers: Numbers,
+) -> Numbers {
+    let mut fate = line::low(answers[1]);
+    let e = line::end(4, words[3], 4096);
+    let w = &line[..];
+    let code = vigbuso_medium_release_blocks(meta, words[1], words[2], &w[4..e], &mut fate);
     answers[0] = line::wide(code);
     answers[1] = line::wide(fate);
     answers
@@ -128,10 +156,10 @@ fn call(
         11_406 => arena_calls::release(meta, line, words, answers),
         9_907 => arena_calls::contains(meta, line, answers),
         11_405 => arena_calls::report(meta, answers),
-        11_610 => take_blocks(meta, words, false, answers),
-        10_917 => take_blocks(meta, words, true, answers),
-        11_413 => release_blocks(meta, line, words, false, answers),
-        10_920 => release_blocks(meta, line, words, true, answers),
+        11_610 => take_blocks(meta, words, answers),
+        10_917 => medium_take_blocks(meta, words, answers),
+        11_413 => release_blocks(meta, line, words, answers),
+        10_920 => medium_release_blocks(meta, line, words, answers),
         11_417 => release_chunks(meta, line, words, answers),
         0 | 3_500 => answers,
         _ => [std::num::wrapping_add_u64(answers[0], 1); 4096],
