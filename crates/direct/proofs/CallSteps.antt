@@ -2,7 +2,7 @@
 use Prim.Native.Nat.{ℕ, zero, suc, _+_, _-_, _*_, _^_, _≤_, _<_}
 use native.Mathlib.Omega.{arith}
 use native.Mathlib.Numerals.{add-one}
-use mathlib.Core.Bool.{Bool, true, false, _||_}
+use mathlib.Core.Bool.{Bool, true, false, not, _||_}
 use mathlib.Core.List.{List}
 use mathlib.Core.Option.{Option, none, some}
 use mathlib.Core.Path.{_≡_, refl, sym, ap, _∙_, subst}
@@ -10,28 +10,28 @@ use lib.Dec.{eqb, leb}
 use lib.ListN.{length, set, length-set}
 use mir.Val.{Fits}
 use mir.Syntax.{w32, w64}
-use borrow.Author.Tests.{lt-ltb, le-leb, lt-leb, leb-true, leb-false, eq-eqb, ne-eqb}
+use borrow.Author.Tests.{lt-ltb, le-leb, lt-leb, leb-true, leb-false, eq-eqb, ne-eqb, not-true, not-false}
 use Rattle.facts.specs.Lists.{isSome}
 use Rattle.facts.proofs.Bools.{by-cases, and-left, and-right, and-no}
 use Rattle.words.specs.Limits.{maxPages}
 use Rattle.words.specs.Host.{commitGranted}
-use Rattle.fields.specs.Field.{arena, frontier, state, held, get}
+use Rattle.fields.specs.Field.{arena, class, frontier, state, held, emptyLimit, coldLimit, get, put}
 use Rattle.classes.specs.Shape.{classCount}
 use Rattle.rules.specs.declared.Limits.{Limits}
 use Rattle.rules.specs.Rules.{rulesOf}
 use Rattle.fields.proofs.Laws.{length-put}
-use Rattle.direct.specs.way.Pre.{RowIn}
 use Rattle.model.specs.Heap.{badRun, badGrowth, direct}
 use Rattle.model.specs.Arena as Model
 use Rattle.runs.specs.declared.Arena.{Arena}
 use Rattle.runs.specs.declared.Commit.{Commit}
-use Rattle.runs.specs.declared.Commit.the-variants.{Refused}
+use Rattle.runs.specs.declared.Commit.the-variants.{Refused, Run, Nothing}
 use Rattle.direct.specs.declared.Grow.{Grow}
+use Rattle.direct.specs.declared.Grow.the-variants.{Yes, No}
 use Rattle.arena.specs.Load.{statusOf, loadArena}
 use Rattle.arena.specs.Owners.{ownerCode}
 use Rattle.runs.specs.way.Record.{recordOf}
 use Rattle.arena.specs.Valid.{recordValid, holesEndValid, giveValid, growGives, growValid}
-use Rattle.arena.specs.Open.{cleared, headWords, limited, ruled}
+use Rattle.arena.specs.Open.{cleared, headWords, ruled}
 use Rattle.arena.specs.Calls.{commitFor, commitCall, given, heldDirect, releaseCall, growCall, containsCall}
 use Rattle.runs.specs.way.Act.{endNone, endRun, endGiven, settle, fromFrontier, growWith, growActs, clamped}
 use Rattle.runs.specs.way.Pre.{GiveIn, BookIn, EndsIn}
@@ -113,15 +113,12 @@ module _ (b₀ rows : List ℕ) where
   rule-start = record { within = omega arith; long = refl; rest = refl }
 
   module _ (b : List ℕ) (c : ℕ) (k : Ruling b c) (l : c < classCount) where
-    pub rule-row : 40000 ≤ length b₀ → RowIn b c
-    rule-row h = record { known = l; long = omega (arith, k .long) }
-
-    pub rule-again : (lim : Limits) (b′ : List ℕ) → lim ≡ rulesOf rows c → b′ ≡ limited b c lim → Ruling b′ (c + 1)
+    pub rule-again : (lim : Limits) (b₁ b₂ : List ℕ) → lim ≡ rulesOf rows c → b₁ ≡ put b (class emptyLimit c) (lim .empty) → b₂ ≡ put b₁ (class coldLimit c) (lim .cold) → Ruling b₂ (c + 1)
     unfolding ruled
-    rule-again lim b′ e z = record {
+    rule-again lim b₁ b₂ e z y = record {
       within = omega arith;
-      long = ap length z ∙ length-put _ _ _ ∙ length-put _ _ _ ∙ k .long;
-      rest = rw add-one (z ∙ rw (e, k .rest));
+      long = rw (y, z) (length-put _ _ _ ∙ length-put _ _ _ ∙ k .long);
+      rest = rw add-one (y ∙ rw (z, e, k .rest));
     }
 
   pub rule-done : (b : List ℕ) (c : ℕ) → Ruling b c → classCount ≤ c → b ≡ ruled b₀ (rulesOf rows) classCount
@@ -205,17 +202,7 @@ module _ (n : ℕ) (b : List ℕ) (h e m : ℕ) where
   grow-as zero (some q) f = refl
   grow-as (suc c) r f = refl
 
-  pub grows-held : (a : Arena) (d : ℕ) (c : Commit) (r : Grow) (x : List ℕ) → a ≡ recordOf b → d ≡ get b (arena held) → Answers c x (growWith n b a h e m (ownerCode direct) d) → r ≡ growCommit c → Grows r x (growActs n b h e m (ownerCode direct))
-  unfolding growActs
-  grows-held a d c r x f g k s =
-      let o = growWith n b a h e m (ownerCode direct) d in
-      rw (← f, ← g) (record { answer = s ∙ ap growCommit (k .answer) ∙ grow-as (o .code) (o .run) (o .fresh); book = k .book })
-
-  -- number 13's test
-  pub growth-told : (t : Bool) → t ≡ growValid n b h e m → t ≡ true → growValid n b h e m ≡ true
-  growth-told t f v = sym f ∙ v
-
-  pub growth-record : growValid n b h e m ≡ true → recordValid n b ≡ true
+  growth-record : growValid n b h e m ≡ true → recordValid n b ≡ true
   unfolding growValid
   growth-record f = and-left (recordValid n b) _ f
 
@@ -223,19 +210,41 @@ module _ (n : ℕ) (b : List ℕ) (h e m : ℕ) where
   unfolding growValid growGives loadArena
   growth-holes f g z l = rw (g, eq-eqb (get b (arena frontier)) e z, le-leb (e + m) n l) at (and-right (recordValid n b) _ f)
 
-  pub growth-ends : (a : Arena) → growValid n b h e m ≡ true → a ≡ recordOf b → commitGranted h ≡ false → a .frontier ≡ e → a .frontier + m ≤ n → EndsIn b a
-  unfolding holesEndValid
-  growth-ends a f i g z l =
-      let y : a .frontier ≡ get b (arena frontier) = ap (λ x. x .frontier) i in
-      subst (λ x. EndsIn b x) (sym i) (growth-holes f g (sym y ∙ z) (omega arith))
+  -- number 13's test
+  module _ (t : Bool) (f : t ≡ growValid n b h e m) where
+    pub grows-invalid : not t ≡ true → Grows (Grow.Refused 13) b (validGrow n b h e m)
+    unfolding validGrow
+    grows-invalid v = rw (← f, not-true t v) (record { answer = refl; book = refl })
 
-  pub grows-valid : (t : Bool) (r : Grow) (x : List ℕ) → t ≡ growValid n b h e m → t ≡ true → Grows r x (growActs n b h e m (ownerCode direct)) → Grows r x (validGrow n b h e m)
-  unfolding validGrow
-  grows-valid t r x f v k = rw (← f, v) k
+    module _ (v : not t ≡ false) where
+      growth-told : growValid n b h e m ≡ true
+      growth-told = sym f ∙ not-false t v
 
-  pub grows-invalid : (t : Bool) → t ≡ growValid n b h e m → t ≡ false → Grows (Grow.Refused 13) b (validGrow n b h e m)
-  unfolding validGrow
-  grows-invalid t f v = rw (← f, v) (record { answer = refl; book = refl })
+      pub growth-loads : recordValid n b ≡ true
+      growth-loads = growth-record growth-told
+
+      module _ (a : Arena) (i : a ≡ recordOf b) where
+        pub growth-ends : commitGranted h ≡ false → a .frontier ≡ e → a .frontier + m ≤ n → EndsIn b a
+        unfolding holesEndValid
+        growth-ends g z l =
+            let y : a .frontier ≡ get b (arena frontier) = ap (λ x. x .frontier) i in
+            subst (λ x. EndsIn b x) (sym i) (growth-holes growth-told g (sym y ∙ z) (omega arith))
+
+        module _ (d : ℕ) (c : Commit) (x : List ℕ) (g : d ≡ get b (arena held)) (k : Answers c x (growWith n b a h e m (ownerCode direct) d)) where
+          grows : Grows (growCommit c) x (validGrow n b h e m)
+          unfolding validGrow growActs
+          grows =
+              let o = growWith n b a h e m (ownerCode direct) d in
+              rw (growth-told, ← i, ← g) (record { answer = ap growCommit (k .answer) ∙ grow-as (o .code) (o .run) (o .fresh); book = k .book })
+
+          pub grows-refused : (r : ℕ) → c ≡ Refused r → Grows (Grow.Refused r) x (validGrow n b h e m)
+          grows-refused r z = rw z at grows
+
+          pub grows-run : (q : ℕ) (y : Bool) → c ≡ Run q y → Grows Yes x (validGrow n b h e m)
+          grows-run q y z = rw z at grows
+
+          pub grows-none : c ≡ Nothing → Grows No x (validGrow n b h e m)
+          grows-none z = rw z at grows
 
   grow-code : growActs n b h e m (ownerCode direct) .code ≡ 0
   unfolding growActs growWith fromFrontier endNone settle endRun endGiven

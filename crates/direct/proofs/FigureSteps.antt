@@ -63,15 +63,6 @@ module _ (b : List ℕ) where
   unfolding allCountsValid
   counts-at c t h = every-at (countsValid b) classCount c t h
 
-module _ (n : ℕ) (b : List ℕ) (t : Bool) (e : t ≡ recordValid n b) where
-  pub record-passes : (u : Bool) → t ≡ true → u ≡ allCountsValid b → u ≡ reportValid n b
-  unfolding reportValid
-  record-passes u v f = rw (← e, v) f
-
-  pub record-fails : t ≡ false → false ≡ reportValid n b
-  unfolding reportValid
-  record-fails v = rw (← e, v)
-
 -- ---- the parked runs of a class
 module _ (b : List ℕ) (c x y : ℕ) (t : countsValid b c ≡ true) (e : x ≡ get b (class emptyCount c)) (k : y ≡ get b (class coldCount c)) where
   runs-few : x + y ≤ maxParked + maxParked
@@ -134,13 +125,21 @@ module _ (n : ℕ) (b : List ℕ) where
   unfolding loadArena loadStore
   figures-are a d p e f g = rw (e, f, g)
 
-  pub told : (t : Bool) (r : Figures) → t ≡ reportValid n b → t ≡ true → r ≡ figures n b → Reported r ≡ reportOf n b
-  unfolding reportOf
-  told t r e v f = rw (← e, v, f)
+  -- number 13
+  module _ (t : Bool) (e : t ≡ recordValid n b) where
+    pub no-record : not t ≡ true → Refused 13 ≡ reportOf n b
+    unfolding reportOf reportValid
+    no-record v = rw (← e, not-true t v)
 
-  pub unreported : (t : Bool) → t ≡ reportValid n b → t ≡ false → Refused 13 ≡ reportOf n b
-  unfolding reportOf
-  unreported t e v = rw (← e, v)
+    module _ (u : Bool) (v : not t ≡ false) (f : u ≡ allCountsValid b) where
+      pub no-counts : u ≡ false → Refused 13 ≡ reportOf n b
+      unfolding reportOf reportValid
+      no-counts w = rw (← e, not-false t v, ← f, w)
 
-  pub valid-reported : (t : Bool) → t ≡ reportValid n b → t ≡ true → reportValid n b ≡ true
-  valid-reported t e v = sym e ∙ v
+      pub valid-reported : u ≡ true → reportValid n b ≡ true
+      unfolding reportValid
+      valid-reported w = rw (← e, not-false t v, ← f, w)
+
+      pub told : (r : Figures) → u ≡ true → r ≡ figures n b → Reported r ≡ reportOf n b
+      unfolding reportOf
+      told r w g = rw (valid-reported w, g)

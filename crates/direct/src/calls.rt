@@ -9,18 +9,15 @@ use runs::load;
 use runs::owners;
 use words::limits::MAX_PAGES;
 ghost use mathlib.Core.Path.{_≡_};
-ghost use mathlib.Core.Bool.{true};
 ghost use Prim.Native.Nat.{_+_, _-_, _≤_, _<_};
 ghost use Rattle.words.specs.Limits.{maxPages};
-ghost use Rattle.model.specs.Heap.{badRun, badGrowth, direct};
-ghost use Rattle.arena.specs.Owners.{ownerCode};
-ghost use Rattle.arena.specs.Valid.{growValid};
+ghost use Rattle.model.specs.Heap.{badRun, badGrowth};
 ghost use Rattle.arena.specs.Calls.{commitCall, releaseCall, growCall, containsCall};
-ghost use Rattle.runs.specs.way.Act.{clamped, growActs};
+ghost use Rattle.runs.specs.way.Act.{clamped};
 ghost use Rattle.runs.specs.way.Pre.{BookIn};
 ghost use Rattle.runs.specs.Answer.{Answers};
 ghost use Rattle.direct.specs.Answer.{Releases};
-ghost use Rattle.direct.specs.way.Acts.{growCommit, Grows, Grew, validGrow, heldRelease};
+ghost use Rattle.direct.specs.way.Acts.{Grows, Grew, validGrow, heldRelease};
 
 fn bad_run(pages: u64) -> bool
     ensures { λ r. ⌜ r ≡ badRun pages ⌝ }
@@ -76,22 +73,14 @@ pub fn release(meta: &mut [u32], size: u32, first: u64, pages: u64) -> u32
     12
 }
 
-// What the settled growth answers.
-fn grow_of(c: Commit) -> Grow
-    ensures { λ r. ⌜ r ≡ growCommit c ⌝ }
-{
-    match c {
-        Commit::Refused(k) => Grow::Refused(k),
-        Commit::Run(_, _) => Grow::Yes,
-        Commit::Nothing => Grow::No,
-    }
-}
-
-// A run that the direct calls hold and that ends at page `end`, on words in their ranges.
+// A run that the direct calls hold and that ends at page `end`: what the settled growth answers.
 fn grow_held(meta: &mut [u32], size: u32, host: u32, end: u32, pages: u32) -> Grow
-    requires { ⌜ BookIn (now meta) size × (growValid size (now meta) host end pages ≡ true) × (pages ≤ maxPages + 1) ⌝ }
-    ensures { λ r. ⌜ Grows r (now (meta .exit)) (growActs size (now (meta .entry)) host end pages (ownerCode direct)) ⌝ }
+    requires { ⌜ BookIn (now meta) size × (end ≤ maxPages) × (pages ≤ maxPages + 1) ⌝ }
+    ensures { λ r. ⌜ Grows r (now (meta .exit)) (validGrow size (now (meta .entry)) host end pages) ⌝ }
 {
+    if !growth::grow_valid(meta, size, host, end, pages) {
+        return Grow::Refused(13);
+    }
     let a = load::load_record(meta);
     let q = Request {
         size,
@@ -100,17 +89,11 @@ fn grow_held(meta: &mut [u32], size: u32, host: u32, end: u32, pages: u32) -> Gr
         owner: DIRECT,
         held: fields::arena::held(meta),
     };
-    grow_of(growth::grow_run(meta, a, end, q))
-}
-
-fn grow_tested(meta: &mut [u32], size: u32, host: u32, end: u32, pages: u32) -> Grow
-    requires { ⌜ BookIn (now meta) size × (end ≤ maxPages) × (pages ≤ maxPages + 1) ⌝ }
-    ensures { λ r. ⌜ Grows r (now (meta .exit)) (validGrow size (now (meta .entry)) host end pages) ⌝ }
-{
-    if growth::grow_valid(meta, size, host, end, pages) {
-        return grow_held(meta, size, host, end, pages);
+    match growth::grow_run(meta, a, end, q) {
+        Commit::Refused(k) => Grow::Refused(k),
+        Commit::Run(_, _) => Grow::Yes,
+        Commit::Nothing => Grow::No,
     }
-    Grow::Refused(13)
 }
 
 fn bad_growth(old: u64, new: u64) -> bool
@@ -133,7 +116,7 @@ pub fn grow_frontier(meta: &mut [u32], size: u32, host: u32, first: u64, old: u6
         return Grow::Refused(6);
     }
     if owners::held_direct(meta, size, first, old) {
-        return grow_tested(meta, size, host, (first + old) as u32, clamp(new - old));
+        return grow_held(meta, size, host, (first + old) as u32, clamp(new - old));
     }
     Grow::Refused(12)
 }

@@ -40,16 +40,6 @@ fn all_counts_valid(meta: &[u32]) -> bool
     true
 }
 
-fn report_valid(meta: &[u32], size: u32) -> bool
-    requires { ⌜ BookIn (now meta) size ⌝ }
-    ensures { λ r. ⌜ r ≡ reportValid size (now (meta .entry)) ⌝ }
-{
-    if load::record_valid(meta, size) {
-        return all_counts_valid(meta);
-    }
-    false
-}
-
 // The pages of a class's parked runs: at most 256 empty and 256 cold ones of at most 8 pages.
 fn parked_of(meta: &[u32], c: u32) -> u32
     requires { ⌜ RowIn (now meta) c × (countsValid (now meta) c ≡ true) ⌝ }
@@ -96,7 +86,10 @@ pub fn report(meta: &[u32], size: u32) -> Report
     requires { ⌜ BookIn (now meta) size ⌝ }
     ensures { λ r. ⌜ r ≡ reportOf size (now (meta .entry)) ⌝ }
 {
-    if report_valid(meta, size) {
+    if !load::record_valid(meta, size) {
+        return Report::Refused(13);
+    }
+    if all_counts_valid(meta) {
         return Report::Reported(figures(meta, size));
     }
     Report::Refused(13)

@@ -4,10 +4,8 @@ ghost use Prim.Native.Nat.{_≤_};
 ghost use lib.ListN.{length};
 ghost use Rattle.classes.specs.Shape.{classCount};
 ghost use Rattle.rules.specs.Rules.{rulesOf};
-ghost use Rattle.arena.specs.Open.{cleared, headWords, limited, ruled, opened};
-ghost use Rattle.direct.specs.way.Pre.{RowIn};
+ghost use Rattle.arena.specs.Open.{cleared, headWords, ruled, opened};
 use classes::CLASS_COUNT;
-use rules::Limits;
 
 fn clear_head(meta: &mut [u32])
     requires { ⌜ 40000 ≤ length (now meta) ⌝ }
@@ -20,21 +18,15 @@ fn clear_head(meta: &mut [u32])
     }
 }
 
-fn limit_class(meta: &mut [u32], c: u32, limits: Limits)
-    requires { ⌜ RowIn (now meta) c ⌝ }
-    ensures { λ _. ⌜ now (meta .exit) ≡ limited (now (meta .entry)) c limits ⌝ }
-{
-    fields::class::set_empty_limit(meta, c, limits.empty);
-    fields::class::set_cold_limit(meta, c, limits.cold);
-}
-
 fn set_rules(meta: &mut [u32], rows: &[u32])
     requires { ⌜ 40000 ≤ length (now meta) ⌝ }
     ensures { λ _. ⌜ now (meta .exit) ≡ ruled (now (meta .entry)) (rulesOf (now (rows .entry))) classCount ⌝ }
 {
     let mut c = 0;
     while c < CLASS_COUNT {
-        limit_class(meta, c, rules::limits_of(rows, c));
+        let limits = rules::limits_of(rows, c);
+        fields::class::set_empty_limit(meta, c, limits.empty);
+        fields::class::set_cold_limit(meta, c, limits.cold);
         c += 1;
     }
 }

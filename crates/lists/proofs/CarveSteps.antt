@@ -2,10 +2,11 @@
 use Prim.Native.Nat.{ℕ, _+_, _-_, _*_, _/_, _≤_, _<_}
 use native.Mathlib.Omega.{arith}
 use native.Mathlib.Numerals.{add-one}
-use mathlib.Core.Bool.{Bool, true}
+use mathlib.Core.Bool.{Bool, true, false}
 use mathlib.Core.List.{List}
 use mathlib.Core.Path.{_≡_, refl, ap, _∙_}
 use lib.ListN.{length}
+use mir.Val.{boolByte}
 use borrow.Author.Tests.{eq-eqb, ne-eqb}
 use Rattle.classes.specs.declared.Shape.{Shape}
 use Rattle.fields.specs.Field.{page, mark, slot, free, carved, virgin, listed, put}
@@ -54,25 +55,19 @@ module _ (b₀ : List ℕ) (q k : ℕ) (b : List ℕ) (x : ℕ) (v : StockInv b�
   stock-all h = stock-done b₀ q k b (2 * x) h v
 
 -- ---- words of out bits and of marks
-pub word-done : (b : List ℕ) (q j : ℕ) (b₁ b₂ : List ℕ) → b₁ ≡ clearOut b q (32 * j) 32 → b₂ ≡ put b₁ (mark q j) 0 → b₂ ≡ put (clearOut b q (32 * j) 32) (mark q j) 0
-word-done b q j b₁ b₂ e e′ = cc
-
 pub record ClearInv (b₀ : List ℕ) (q k : ℕ) (b : List ℕ) (i : ℕ) : Type 0 where
   pub few : k ≤ 128
   pub within : i ≤ k
   pub long : length b ≡ length b₀
   pub done : b ≡ bareBits b₀ q i
 
-pub word-pre : (b₀ : List ℕ) (q k : ℕ) (b : List ℕ) (i : ℕ) → ClearPre b₀ q k → ClearInv b₀ q k b i → i < k → ClearPre b q (i + 1)
-word-pre b₀ q k b i a v h = record { few = omega (arith, a .few); there = rw (v .long) (a .there) }
-
 pub clear-start : (b₀ : List ℕ) (q k : ℕ) → ClearPre b₀ q k → ClearInv b₀ q k b₀ 0
 unfolding clearOut clearMarks
 clear-start b₀ q k a = record { few = a .few; within = omega arith; long = refl; done = refl }
 
-pub clear-again : (b₀ : List ℕ) (q k : ℕ) (b b′ : List ℕ) (i : ℕ) → i < k → ClearInv b₀ q k b i → b′ ≡ put (clearOut b q (32 * i) 32) (mark q i) 0 → ClearInv b₀ q k b′ (i + 1)
+pub clear-again : (b₀ : List ℕ) (q k : ℕ) (b b₁ b′ : List ℕ) (i : ℕ) → i < k → ClearInv b₀ q k b i → b₁ ≡ clearOut b q (32 * i) 32 → b′ ≡ put b₁ (mark q i) 0 → ClearInv b₀ q k b′ (i + 1)
 unfolding clearMarks
-clear-again b₀ q k b b′ i h v e =
+clear-again b₀ q k b b₁ b′ i h v e₁ e₂ =
     record {
       few = v .few;
       within = omega arith;
@@ -80,6 +75,9 @@ clear-again b₀ q k b b′ i h v e =
       done = e ∙ ap (λ z. put z (mark q i) 0) (ap (λ z. clearOut z q (32 * i) 32) (v .done) ∙ marks-past-out i 32 q (32 * i) (clearOut b₀ q 0 (32 * i)) (omega (arith, v .few)) (omega (arith, v .few)) ∙ ap (λ z. clearMarks z q i) outs) ∙ one-more (clearOut b₀ q 0 (32 * (i + 1)));
     }
   where
+    e : b′ ≡ put (clearOut b q (32 * i) 32) (mark q i) 0
+    e = e₂ ∙ ap (λ z. put z (mark q i) 0) e₁
+
     e-long : length b′ ≡ length b
     e-long = ap length e ∙ length-put (clearOut b q (32 * i) 32) (mark q i) 0 ∙ length-clear 32 q (32 * i) b
 
@@ -108,9 +106,13 @@ stocked-none sh h = rw (ne-eqb (sh .kind) 2 h)
 pub stock-pre : (b : List ℕ) (sh : Shape) (q k : ℕ) → CarvePre b sh q → k ≡ stocked sh → StockPre b q k
 stock-pre b sh q k h e = record { few = stocked-le sh k e (h .few); there = h .there }
 
-pub carve-done : (b : List ℕ) (sh : Shape) (q : ℕ) (v : Bool) (k f : ℕ) (b₁ b₂ b₃ b₄ : List ℕ) → k ≡ stocked sh → b₁ ≡ push b q 0 (descending 0 k) → f ≡ digit v → b₂ ≡ put b₁ (page virgin q) f → b₃ ≡ put b₂ (page carved q) k → b₄ ≡ put b₃ (page free q) k → b₄ ≡ carveAnew b sh q v
+byte-digit : (v : Bool) → boolByte v ≡ digit v
+byte-digit true = refl
+byte-digit false = refl
+
+pub carve-done : (b : List ℕ) (sh : Shape) (q : ℕ) (v : Bool) (k : ℕ) (b₁ b₂ b₃ b₄ : List ℕ) → k ≡ stocked sh → b₁ ≡ push b q 0 (descending 0 k) → b₂ ≡ put b₁ (page virgin q) (boolByte v) → b₃ ≡ put b₂ (page carved q) k → b₄ ≡ put b₃ (page free q) k → b₄ ≡ carveAnew b sh q v
 unfolding carveAnew
-carve-done b sh q v k f b₁ b₂ b₃ b₄ e e₁ e′ e₂ e₃ e₄ = rw (e₄, e₃, e₂, e₁, e′, e)
+carve-done b sh q v k b₁ b₂ b₃ b₄ e e₁ e₂ e₃ e₄ = rw (e₄, e₃, e₂, e₁, byte-digit v, e)
 
 pub new-done : (b : List ℕ) (sh : Shape) (q : ℕ) (b₁ b₂ b₃ b₄ : List ℕ) → b₁ ≡ nameRun b q q (sh .pages) → b₂ ≡ bareBits b₁ q ((sh .capacity + 31) / 32) → b₃ ≡ put b₂ (page listed q) 0 → b₄ ≡ carveAnew b₃ sh q true → b₄ ≡ newRun b sh q
 unfolding newRun bareRun

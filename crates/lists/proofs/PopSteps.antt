@@ -174,7 +174,7 @@ module _ (b₀ : List ℕ) (sh : Shape) (q : ℕ) (l₀ : List ℕ) (at x k : �
       rw e at (p .handedOut)
 
 -- ---- half a word, whole words, and half a word
-module _ (b : List ℕ) (sh : Shape) (q : ℕ) (l : List ℕ) (at t k : ℕ) (a : PopPre b sh q l at t k) (s : 1 ≤ k) where
+module _ (b : List ℕ) (sh : Shape) (q : ℕ) (l : List ℕ) (at t k : ℕ) (a : PopPre b sh q l at t k) (s : k ≡ 0 → ⊥) where
   abbrev pairs : ℕ
   pairs = (k - t % 2) / 2
 

@@ -1,9 +1,5 @@
 // Carving a run, and a run that the arena gave.
 ghost use mathlib.Core.Path.{_≡_};
-ghost use Prim.Native.Nat.{_+_, _*_};
-ghost use Rattle.fields.specs.Clear.{clearOut};
-ghost use Rattle.fields.specs.Field.{mark, put};
-ghost use Rattle.words.specs.Host.{digit};
 ghost use Rattle.pages.specs.Stack.{descending, push};
 ghost use Rattle.pages.specs.Carve.{stocked, carveAnew, bareBits, newRun};
 ghost use Rattle.pages.specs.way.Pre.{StockPre, CarvePre, ClearPre, NewPre};
@@ -36,12 +32,6 @@ fn stocked(shape: Shape) -> u32
     }
 }
 
-fn digit(v: bool) -> u32
-    ensures { λ r. ⌜ r ≡ digit v ⌝ }
-{
-    if v { 1 } else { 0 }
-}
-
 // A small page's blocks will be carved as they are wanted; a span's are all free.
 pub fn carve_anew(meta: &mut [u32], shape: Shape, q: u32, virgin: bool)
     requires { ⌜ CarvePre (now meta) shape q ⌝ }
@@ -49,18 +39,9 @@ pub fn carve_anew(meta: &mut [u32], shape: Shape, q: u32, virgin: bool)
 {
     let k = stocked(shape);
     stock(meta, q, k);
-    fields::page::set_virgin(meta, q, digit(virgin));
+    fields::page::set_virgin(meta, q, virgin as u32);
     fields::page::set_carved(meta, q, k);
     fields::page::set_free(meta, q, k);
-}
-
-// Blocks 32 j to 32 j + 31 are not out, and not marked.
-fn clear_word(meta: &mut [u32], q: u32, j: u32)
-    requires { ⌜ ClearPre (now meta) q (j + 1) ⌝ }
-    ensures { λ _. ⌜ now (meta .exit) ≡ put (clearOut (now (meta .entry)) q (32 * j) 32) (mark q j) 0 ⌝ }
-{
-    fields::out::clear_word(meta, q, j);
-    fields::marks::set_word(meta, q, j, 0);
 }
 
 // The blocks of the first k words of out bits are not out, and not marked.
@@ -70,7 +51,8 @@ pub fn clear_bits(meta: &mut [u32], q: u32, k: u32)
 {
     let mut j = 0;
     while j < k {
-        clear_word(meta, q, j);
+        fields::out::clear_word(meta, q, j);
+        fields::marks::set_word(meta, q, j, 0);
         j += 1;
     }
 }

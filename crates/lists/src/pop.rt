@@ -122,20 +122,6 @@ fn pop_pairs(meta: &mut [u32], shape: Shape, q: u32, list: &mut [u64], at: u32, 
     pop_mixed(meta, shape, q, list, at, x, k);
 }
 
-// k blocks from a stack of `top`, where there is an entry.
-fn pop_some(meta: &mut [u32], shape: Shape, q: u32, list: &mut [u64], at: u32, top: u32, k: u32)
-    requires { ⌜ PopPre (now meta) shape q (now list) at top k ⌝ }
-    requires { ⌜ 1 ≤ k ⌝ }
-    ensures { λ _. ⌜ HandedOut (now (meta .entry)) shape q (now (list .entry)) at (reverse (topEntries (now (meta .entry)) q k top)) (now (meta .exit)) (now (list .exit)) ⌝ }
-{
-    let odd = top % 2;
-    let pairs = (k - odd) / 2;
-    let many = odd + 2 * pairs;
-    pop_end(meta, shape, q, list, at, top, odd);
-    pop_pairs(meta, shape, q, list, at - odd, top / 2, pairs);
-    pop_end(meta, shape, q, list, at - many, top - many, k - many);
-}
-
 // k blocks from a stack of `top`.
 pub fn pop_blocks(
     meta: &mut [u32],
@@ -149,7 +135,13 @@ pub fn pop_blocks(
     requires { ⌜ PopPre (now meta) shape q (now list) at top k ⌝ }
     ensures { λ _. ⌜ HandedOut (now (meta .entry)) shape q (now (list .entry)) at (reverse (topEntries (now (meta .entry)) q k top)) (now (meta .exit)) (now (list .exit)) ⌝ }
 {
-    if k != 0 {
-        pop_some(meta, shape, q, list, at, top, k);
+    if k == 0 {
+        return;
     }
+    let odd = top % 2;
+    let pairs = (k - odd) / 2;
+    let many = odd + 2 * pairs;
+    pop_end(meta, shape, q, list, at, top, odd);
+    pop_pairs(meta, shape, q, list, at - odd, top / 2, pairs);
+    pop_end(meta, shape, q, list, at - many, top - many, k - many);
 }

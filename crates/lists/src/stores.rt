@@ -1,8 +1,8 @@
 // A class's stores of pages with no block out: stacks of pages, linked by NEXT.
 ghost use mathlib.Core.Path.{_≡_};
 ghost use Rattle.fields.specs.Field.{class, get, put};
-ghost use Rattle.pages.specs.Links.{top, stored, parkRun, popStore, unparkRun};
-ghost use Rattle.pages.specs.way.Pre.{RowPre, ParkPre, PopStorePre, UnparkRunPre};
+ghost use Rattle.pages.specs.Links.{top, stored, parkRun, unparkRun};
+ghost use Rattle.pages.specs.way.Pre.{RowPre, ParkPre, UnparkRunPre};
 use crate::links::link_partial;
 use pages::Park;
 
@@ -59,22 +59,14 @@ pub fn park_run(meta: &mut [u32], c: u32, park: Park, q: u32)
     set_store_count(meta, c, park, count + 1);
 }
 
-// The newest page, q, leaves its store.
-pub fn pop_store(meta: &mut [u32], c: u32, park: Park, q: u32)
-    requires { ⌜ PopStorePre (now meta) c park q ⌝ }
-    ensures { λ _. ⌜ now (meta .exit) ≡ popStore (now (meta .entry)) c park q ⌝ }
+// The newest page, q, leaves its store, and heads the partial list.
+pub fn unpark_run(meta: &mut [u32], c: u32, park: Park, q: u32)
+    requires { ⌜ UnparkRunPre (now meta) c park q ⌝ }
+    ensures { λ _. ⌜ now (meta .exit) ≡ unparkRun (now (meta .entry)) c park q ⌝ }
 {
     let next = fields::page::next(meta, q);
     let count = store_count(meta, c, park);
     set_store_top(meta, c, park, next);
     set_store_count(meta, c, park, count - 1);
-}
-
-// The newest page of a store heads the partial list.
-pub fn unpark_run(meta: &mut [u32], c: u32, park: Park, q: u32)
-    requires { ⌜ UnparkRunPre (now meta) c park q ⌝ }
-    ensures { λ _. ⌜ now (meta .exit) ≡ unparkRun (now (meta .entry)) c park q ⌝ }
-{
-    pop_store(meta, c, park, q);
     link_partial(meta, c, q);
 }

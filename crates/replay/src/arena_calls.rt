@@ -3,6 +3,8 @@ use super::line::Numbers;
 use super::line::Words;
 use super::line::low;
 use super::line::wide;
+use vigbuso::arena_calls::vigbuso_commit;
+use vigbuso::arena_calls::vigbuso_grow_frontier;
 ghost use mathlib.Core.Path.{_≡_};
 ghost use lib.ListN.{getD, set};
 ghost use Rattle.words.specs.Host.{digit};
@@ -14,13 +16,7 @@ pub fn commit(meta: &mut [u32], line: &Numbers, words: &Words, mut answers: Numb
 {
     let mut first = low(answers[1]);
     let mut fresh = low(answers[2]);
-    let code = vigbuso::arena_calls::vigbuso_commit(
-        meta,
-        words[1],
-        line[2],
-        &mut first,
-        &mut fresh,
-    );
+    let code = vigbuso_commit(meta, words[1], line[2], &mut first, &mut fresh);
     answers[0] = wide(code);
     answers[1] = wide(first);
     answers[2] = wide(fresh);
@@ -31,14 +27,7 @@ pub fn grow(meta: &mut [u32], line: &Numbers, words: &Words, mut answers: Number
     ensures { λ r. ⌜ Made (growOn (now (meta .entry)) (getD (now (words .entry)) 1 0) (getD (now (line .entry)) 2 0) (getD (now (line .entry)) 3 0) (getD (now (line .entry)) 4 0) .book) (grown (growOn (now (meta .entry)) (getD (now (words .entry)) 1 0) (getD (now (line .entry)) 2 0) (getD (now (line .entry)) 3 0) (getD (now (line .entry)) 4 0)) answers) (now (meta .exit)) r ⌝ }
 {
     let mut grown = low(answers[1]);
-    let code = vigbuso::arena_calls::vigbuso_grow_frontier(
-        meta,
-        words[1],
-        line[2],
-        line[3],
-        line[4],
-        &mut grown,
-    );
+    let code = vigbuso_grow_frontier(meta, words[1], line[2], line[3], line[4], &mut grown);
     answers[0] = wide(code);
     answers[1] = wide(grown);
     answers

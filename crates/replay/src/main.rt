@@ -7,6 +7,8 @@ use libc::STDIN_FILENO;
 use libc::STDOUT_FILENO;
 use line::Numbers;
 use line::Words;
+use vigbuso::release_calls::vigbuso_medium_release_blocks;
+use vigbuso::release_calls::vigbuso_release_blocks;
 ghost use mathlib.Core.Path.{_≡_};
 ghost use lib.ListN.{length};
 
@@ -72,13 +74,7 @@ fn release_blocks(
     let mut fate = line::low(answers[1]);
     let e = line::end(4, words[3], 4096);
     let w = &line[..];
-    let code = vigbuso::release_calls::vigbuso_release_blocks(
-        meta,
-        words[1],
-        words[2],
-        &w[4..e],
-        &mut fate,
-    );
+    let code = vigbuso_release_blocks(meta, words[1], words[2], &w[4..e], &mut fate);
     answers[0] = line::wide(code);
     answers[1] = line::wide(fate);
     answers
@@ -93,13 +89,7 @@ fn medium_release_blocks(
     let mut fate = line::low(answers[1]);
     let e = line::end(4, words[3], 4096);
     let w = &line[..];
-    let code = vigbuso::release_calls::vigbuso_medium_release_blocks(
-        meta,
-        words[1],
-        words[2],
-        &w[4..e],
-        &mut fate,
-    );
+    let code = vigbuso_medium_release_blocks(meta, words[1], words[2], &w[4..e], &mut fate);
     answers[0] = line::wide(code);
     answers[1] = line::wide(fate);
     answers

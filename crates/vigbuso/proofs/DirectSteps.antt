@@ -4,13 +4,13 @@ use native.Mathlib.Omega.{arith}
 use mathlib.Core.Bool.{Bool, true, false}
 use mathlib.Core.List.{List}
 use mathlib.Core.Option.{none}
-use mathlib.Core.Path.{_≡_, refl, sym, _∙_}
-use lib.Dec.{eqb, leb}
+use mathlib.Core.Path.{_≡_, refl, sym, ap, _∙_}
+use lib.Dec.{leb}
 use lib.ListN.{length}
 use mir.Val.{Fits, boolByte}
 use mir.Syntax.{w32}
-use borrow.Author.Tests.{leb-true, eqb-true, eq-eqb, ne-eqb}
-use Rattle.facts.proofs.Bools.{by-cases, and-right}
+use borrow.Author.Tests.{leb-true, eq-eqb, ne-eqb}
+use Rattle.facts.proofs.Bools.{and-right}
 use Rattle.words.specs.Host.{digit}
 use Rattle.rules.specs.Rules.{rowsFault, rulesOf}
 use Rattle.fields.specs.Field.{arena, size, get, Has, words}
@@ -24,7 +24,7 @@ use Rattle.direct.specs.declared.Grow.the-variants.{Yes, No}
 use Rattle.model.specs.declared.Figures.{Figures}
 use Rattle.direct.specs.declared.Report.{Report}
 use Rattle.direct.specs.declared.Report.the-variants.{Reported}
-use Rattle.arena.specs.Calls.{Committed, commitCall, Done, growCall, releaseCall, containsCall}
+use Rattle.arena.specs.Calls.{Committed, commitRefused, commitCall, Done, doneRefused, growCall, releaseCall, containsCall}
 use Rattle.arena.specs.Open.{opened}
 use Rattle.runs.specs.way.Pre.{BookIn}
 use Rattle.runs.specs.Answer.{answerOf, Answers}
@@ -84,66 +84,9 @@ module _ (b : List ℕ) (n : ℕ) (ws : List ℕ) (r : ℕ) (e : r ≡ openFault
   unfolding openOn
   open-refused d = rw (← e, ne-eqb r 0 d) (record { answer = refl; book = refl })
 
-  module _ (z : r ≡ 0) where
-    no-fault : lengthFault n (length b) ≡ 0
-    unfolding openFault
-    no-fault =
-        by-cases (eqb (lengthFault n (length b)) 0)
-        (λ t. eqb-true (lengthFault n (length b)) 0 t)
-        (λ t. sym (rw t at e) ∙ z)
-
-    pub ruled-fits : Fits w32 n
-    ruled-fits = open-fits b n (lengthFault n (length b)) refl no-fault
-
-    pub ruled-long : 40000 ≤ length b
-    ruled-long = open-long b n (lengthFault n (length b)) refl no-fault
-
-    pub open-done : (x : List ℕ) → x ≡ opened n (rulesOf ws) b → Did 0 x (openOn b n ws)
-    unfolding openOn
-    open-done x f = rw (← e, eq-eqb r 0 z) (record { answer = refl; book = f })
-
--- ---- the calls
-module _ (b : List ℕ) (h r : ℕ) (e : r ≡ callFault b h) where
-  pub commit-refused : (m : ℕ) → (r ≡ 0 → ⊥) → Answers (Refused r) b (commitOn b h m)
-  unfolding commitOn
-  commit-refused m d = rw (← e, ne-eqb r 0 d) (record { answer = refusal r d; book = refl })
-
-  pub commit-goes : (m n : ℕ) (s : Commit) (x : List ℕ) → r ≡ 0 → n ≡ get b (arena size) → Answers s x (commitCall n b h m) → Answers s x (commitOn b h m)
-  unfolding commitOn
-  commit-goes m n s x z f k = rw (← e, eq-eqb r 0 z) (rw f at k)
-
-  pub grow-refused : (q old new : ℕ) → (r ≡ 0 → ⊥) → Grew (Grow.Refused r) b (growOn b h q old new)
-  unfolding growOn
-  grow-refused q old new d = rw (← e, ne-eqb r 0 d) (record { answer = grow-refusal r d; book = refl })
-
-  pub grow-goes : (q old new n : ℕ) (s : Grow) (x : List ℕ) → r ≡ 0 → n ≡ get b (arena size) → Grew s x (growCall n b h q old new) → Grew s x (growOn b h q old new)
-  unfolding growOn
-  grow-goes q old new n s x z f k = rw (← e, eq-eqb r 0 z) (rw f at k)
-
-  pub release-refused : (q m : ℕ) → (r ≡ 0 → ⊥) → Releases r b (releaseOn b h q m)
-  unfolding releaseOn
-  release-refused q m d = rw (← e, ne-eqb r 0 d) (record { code = refl; book = refl })
-
-  pub release-goes : (q m n s : ℕ) (x : List ℕ) → r ≡ 0 → n ≡ get b (arena size) → Releases s x (releaseCall n b q m) → Releases s x (releaseOn b h q m)
-  unfolding releaseOn
-  release-goes q m n s x z f k = rw (← e, eq-eqb r 0 z) (rw f at k)
-
-module _ (b : List ℕ) (r : ℕ) (e : r ≡ metaFault b) where
-  pub contains-refused : (o k : ℕ) → (r ≡ 0 → ⊥) → false ≡ containsOn b o k
-  unfolding containsOn
-  contains-refused o k d = rw (← e, ne-eqb r 0 d)
-
-  pub contains-goes : (o k n : ℕ) (s : Bool) → r ≡ 0 → n ≡ get b (arena size) → s ≡ containsCall n b o k → s ≡ containsOn b o k
-  unfolding containsOn
-  contains-goes o k n s z f g = rw (← e, eq-eqb r 0 z) (rw f at g)
-
-  pub report-refused : (r ≡ 0 → ⊥) → Report.Refused r ≡ reportOn b
-  unfolding reportOn
-  report-refused d = rw (← e, ne-eqb r 0 d)
-
-  pub report-goes : (n : ℕ) (s : Report) → r ≡ 0 → n ≡ get b (arena size) → s ≡ reportOf n b → s ≡ reportOn b
-  unfolding reportOn
-  report-goes n s z f g = rw (← e, eq-eqb r 0 z) (rw f at g)
+  pub open-done : (x : List ℕ) → r ≡ 0 → x ≡ opened n (rulesOf ws) b → Did 0 x (openOn b n ws)
+  unfolding openOn
+  open-done x z f = rw (← e, eq-eqb r 0 z) (record { answer = refl; book = f })
 
 -- ---- the out-parameters
 pub byte-digit : (g : Bool) → boolByte g ≡ digit g
@@ -176,3 +119,46 @@ module _ (o s : Report) (k : s ≡ o) where
 
   pub report-ends-told : (f : Figures) (fs : List ℕ) → s ≡ Reported f → ReportEnds o 0 fs (figuresOut (Reported f) fs)
   report-ends-told f fs e = let z = sym k ∙ e in record { code = rw z; figures = rw z }
+
+-- ---- the calls
+module _ (b : List ℕ) (h r : ℕ) (e : r ≡ callFault b h) where
+  pub commit-refused : (m q f : ℕ) → (r ≡ 0 → ⊥) → CommitEnds (commitOn b h m) r b q q f f
+  unfolding commitOn
+  commit-refused m q f d = rw (← e, ne-eqb r 0 d) (commit-ends-refused (commitRefused b r) b (Refused r) (record { answer = refusal r d; book = refl }) r q f refl)
+
+  pub commit-goes : (m n : ℕ) (s : Commit) (x : List ℕ) → r ≡ 0 → n ≡ get b (arena size) → Answers s x (commitCall n b h m) → Answers s x (commitOn b h m)
+  unfolding commitOn
+  commit-goes m n s x z f k = rw (← e, eq-eqb r 0 z) (rw f at k)
+
+  pub grow-refused : (q old new g : ℕ) → (r ≡ 0 → ⊥) → GrowEnds (growOn b h q old new) r b g g
+  unfolding growOn
+  grow-refused q old new g d = rw (← e, ne-eqb r 0 d) (grow-ends-refused (doneRefused b r) b (Grow.Refused r) (record { answer = grow-refusal r d; book = refl }) r g refl)
+
+  pub grow-goes : (q old new n : ℕ) (s : Grow) (x : List ℕ) → r ≡ 0 → n ≡ get b (arena size) → Grew s x (growCall n b h q old new) → Grew s x (growOn b h q old new)
+  unfolding growOn
+  grow-goes q old new n s x z f k = rw (← e, eq-eqb r 0 z) (rw f at k)
+
+  pub release-refused : (q m : ℕ) → (r ≡ 0 → ⊥) → Releases r b (releaseOn b h q m)
+  unfolding releaseOn
+  release-refused q m d = rw (← e, ne-eqb r 0 d) (record { code = refl; book = refl })
+
+  pub release-goes : (q m n s : ℕ) (x : List ℕ) → r ≡ 0 → n ≡ get b (arena size) → Releases s x (releaseCall n b q m) → Releases s x (releaseOn b h q m)
+  unfolding releaseOn
+  release-goes q m n s x z f k = rw (← e, eq-eqb r 0 z) (rw f at k)
+
+module _ (b : List ℕ) (r : ℕ) (e : r ≡ metaFault b) where
+  pub contains-refused : (o k : ℕ) → (r ≡ 0 → ⊥) → 0 ≡ digit (containsOn b o k)
+  unfolding containsOn
+  contains-refused o k d = rw (← e, ne-eqb r 0 d)
+
+  pub contains-goes : (o k n : ℕ) (s : Bool) → r ≡ 0 → n ≡ get b (arena size) → s ≡ containsCall n b o k → boolByte s ≡ digit (containsOn b o k)
+  unfolding containsOn
+  contains-goes o k n s z f g = rw (← e, eq-eqb r 0 z) (byte-digit s ∙ ap digit (rw f at g))
+
+  pub report-refused : (fs : List ℕ) → (r ≡ 0 → ⊥) → ReportEnds (reportOn b) r fs fs
+  unfolding reportOn
+  report-refused fs d = rw (← e, ne-eqb r 0 d) (record { code = refl; figures = refl })
+
+  pub report-goes : (n : ℕ) (s : Report) → r ≡ 0 → n ≡ get b (arena size) → s ≡ reportOf n b → s ≡ reportOn b
+  unfolding reportOn
+  report-goes n s z f g = rw (← e, eq-eqb r 0 z) (rw f at g)

@@ -6,10 +6,8 @@ use runs::Commit;
 ghost use mathlib.Core.Path.{_≡_};
 ghost use Rattle.words.specs.Host.{digit};
 ghost use Rattle.fields.specs.Outcome.{Did};
-ghost use Rattle.runs.specs.Answer.{Answers};
 ghost use Rattle.direct.specs.Answer.{Releases};
-ghost use Rattle.direct.specs.way.Acts.{Grew};
-ghost use Rattle.vigbuso.specs.Direct.{openFault, openOn, commitOn, CommitEnds, growOn, GrowEnds, releaseOn, containsOn, reportOn, ReportEnds};
+ghost use Rattle.vigbuso.specs.Direct.{openOn, commitOn, CommitEnds, growOn, GrowEnds, releaseOn, containsOn, reportOn, ReportEnds};
 
 // The first page of no run.
 const NO_PAGE: u32 = 4_294_967_295;
@@ -18,37 +16,20 @@ const NO_PAGE: u32 = 4_294_967_295;
 pub const FIGURES: usize = 6;
 
 // Numbers 1 and 2, then 19, 18 and 17.
-fn open_fault(meta: &[u32], pages: u64, rows: &[u32]) -> u32
-    ensures { λ r. ⌜ r ≡ openFault pages (now (rows .entry)) (now (meta .entry)) ⌝ }
+#[no_mangle]
+pub extern "C" fn vigbuso_open(meta: &mut [u32], pages: u64, rows: &[u32]) -> u32
+    ensures { λ r. ⌜ Did r (now (meta .exit)) (openOn (now (meta .entry)) pages (now (rows .entry))) ⌝ }
 {
     let fault = fields::fault::length_fault(pages, meta.len());
     if fault != 0 {
         return fault;
     }
-    rules::rows_fault(rows)
-}
-
-#[no_mangle]
-pub extern "C" fn vigbuso_open(meta: &mut [u32], pages: u64, rows: &[u32]) -> u32
-    ensures { λ r. ⌜ Did r (now (meta .exit)) (openOn (now (meta .entry)) pages (now (rows .entry))) ⌝ }
-{
-    let fault = open_fault(meta, pages, rows);
+    let fault = rules::rows_fault(rows);
     if fault != 0 {
         return fault;
     }
     direct::open::open(meta, pages as u32, rows);
     0
-}
-
-fn commit_on(meta: &mut [u32], host: u32, pages: u64) -> Commit
-    ensures { λ r. ⌜ Answers r (now (meta .exit)) (commitOn (now (meta .entry)) host pages) ⌝ }
-{
-    let fault = call_fault(meta, host);
-    if fault != 0 {
-        return Commit::Refused(fault);
-    }
-    let size = fields::arena::size(meta);
-    direct::calls::commit(meta, size, host, pages)
 }
 
 #[no_mangle]
@@ -61,7 +42,12 @@ pub extern "C" fn vigbuso_commit(
 ) -> u32
     ensures { λ r. ⌜ CommitEnds (commitOn (now (meta .entry)) host pages) r (now (meta .exit)) (now (first .entry)) (now (first .exit)) (now (fresh .entry)) (now (fresh .exit)) ⌝ }
 {
-    match commit_on(meta, host, pages) {
+    let fault = call_fault(meta, host);
+    if fault != 0 {
+        return fault;
+    }
+    let size = fields::arena::size(meta);
+    match direct::calls::commit(meta, size, host, pages) {
         Commit::Refused(k) => k,
         Commit::Run(q, f) => {
             *first = q;
@@ -76,17 +62,6 @@ pub extern "C" fn vigbuso_commit(
     }
 }
 
-fn grow_on(meta: &mut [u32], host: u32, first: u64, old: u64, new: u64) -> Grow
-    ensures { λ r. ⌜ Grew r (now (meta .exit)) (growOn (now (meta .entry)) host first old new) ⌝ }
-{
-    let fault = call_fault(meta, host);
-    if fault != 0 {
-        return Grow::Refused(fault);
-    }
-    let size = fields::arena::size(meta);
-    direct::calls::grow_frontier(meta, size, host, first, old, new)
-}
-
 #[no_mangle]
 pub extern "C" fn vigbuso_grow_frontier(
     meta: &mut [u32],
@@ -98,7 +73,12 @@ pub extern "C" fn vigbuso_grow_frontier(
 ) -> u32
     ensures { λ r. ⌜ GrowEnds (growOn (now (meta .entry)) host first old new) r (now (meta .exit)) (now (grown .entry)) (now (grown .exit)) ⌝ }
 {
-    match grow_on(meta, host, first, old, new) {
+    let fault = call_fault(meta, host);
+    if fault != 0 {
+        return fault;
+    }
+    let size = fields::arena::size(meta);
+    match direct::calls::grow_frontier(meta, size, host, first, old, new) {
         Grow::Refused(k) => k,
         Grow::Yes => {
             *grown = 1;
@@ -123,39 +103,27 @@ pub extern "C" fn vigbuso_release(meta: &mut [u32], host: u32, first: u64, pages
     direct::calls::release(meta, size, first, pages)
 }
 
-fn contains_on(meta: &[u32], offset: u64, length: u64) -> bool
-    ensures { λ r. ⌜ r ≡ containsOn (now (meta .entry)) offset length ⌝ }
-{
-    if fields::fault::meta_fault(meta) != 0 {
-        return false;
-    }
-    let size = fields::arena::size(meta);
-    direct::calls::contains(meta, size, offset, length)
-}
-
 #[no_mangle]
 pub extern "C" fn vigbuso_contains(meta: &[u32], offset: u64, length: u64) -> u32
     ensures { λ r. ⌜ r ≡ digit (containsOn (now (meta .entry)) offset length) ⌝ }
 {
-    contains_on(meta, offset, length) as u32
-}
-
-fn report_on(meta: &[u32]) -> Report
-    ensures { λ r. ⌜ r ≡ reportOn (now (meta .entry)) ⌝ }
-{
-    let fault = fields::fault::meta_fault(meta);
-    if fault != 0 {
-        return Report::Refused(fault);
+    if fields::fault::meta_fault(meta) != 0 {
+        return 0;
     }
     let size = fields::arena::size(meta);
-    direct::figures::report(meta, size)
+    direct::calls::contains(meta, size, offset, length) as u32
 }
 
 #[no_mangle]
 pub extern "C" fn vigbuso_report(meta: &[u32], figures: &mut [u64; FIGURES]) -> u32
     ensures { λ r. ⌜ ReportEnds (reportOn (now (meta .entry))) r (now (figures .entry)) (now (figures .exit)) ⌝ }
 {
-    match report_on(meta) {
+    let fault = fields::fault::meta_fault(meta);
+    if fault != 0 {
+        return fault;
+    }
+    let size = fields::arena::size(meta);
+    match direct::figures::report(meta, size) {
         Report::Refused(k) => k,
         Report::Reported(f) => {
             *figures = [f.commits, f.reuses, f.abandoned, f.held, f.idle, f.overlap];

@@ -2,7 +2,6 @@
 use crate::faults::class_fault;
 use release::Released;
 ghost use Prim.Native.Nat.{_+_, _≤_};
-ghost use Rattle.release.specs.way.Act.{Answered};
 ghost use Rattle.vigbuso.specs.Blocks.{releaseOn, ReleaseEnds};
 
 // A release of a class among those of ids `low` to `low + many - 1`.
@@ -13,17 +12,24 @@ fn release_on(
     class: u32,
     host: u32,
     list: &[u64],
-) -> Released
+    fate: &mut u32,
+) -> u32
     requires { ⌜ low + many ≤ 76 ⌝ }
-    ensures { λ r. ⌜ Answered r (now (meta .exit)) (releaseOn low many (now (meta .entry)) class host (now (list .entry))) ⌝ }
+    ensures { λ r. ⌜ ReleaseEnds (releaseOn low many (now (meta .entry)) class host (now (list .entry))) r (now (meta .exit)) (now (fate .entry)) (now (fate .exit)) ⌝ }
 {
     let fault = class_fault(meta, host, many, class);
     if fault != 0 {
-        return Released::Refused(fault);
+        return fault;
     }
     let size = fields::arena::size(meta);
     let id = low + class;
-    release::release_blocks(meta, size, id, host, list)
+    match release::release_blocks(meta, size, id, host, list) {
+        Released::Refused(k) => k,
+        Released::Fate(f) => {
+            *fate = f;
+            0
+        }
+    }
 }
 
 #[no_mangle]
@@ -36,13 +42,7 @@ pub extern "C" fn vigbuso_release_blocks(
 ) -> u32
     ensures { λ r. ⌜ ReleaseEnds (releaseOn 0 64 (now (meta .entry)) class host (now (list .entry))) r (now (meta .exit)) (now (fate .entry)) (now (fate .exit)) ⌝ }
 {
-    match release_on(meta, 0, 64, class, host, list) {
-        Released::Refused(k) => k,
-        Released::Fate(f) => {
-            *fate = f;
-            0
-        }
-    }
+    release_on(meta, 0, 64, class, host, list, fate)
 }
 
 #[no_mangle]
@@ -55,11 +55,5 @@ pub extern "C" fn vigbuso_medium_release_blocks(
 ) -> u32
     ensures { λ r. ⌜ ReleaseEnds (releaseOn 64 12 (now (meta .entry)) class host (now (list .entry))) r (now (meta .exit)) (now (fate .entry)) (now (fate .exit)) ⌝ }
 {
-    match release_on(meta, 64, 12, class, host, list) {
-        Released::Refused(k) => k,
-        Released::Fate(f) => {
-            *fate = f;
-            0
-        }
-    }
+    release_on(meta, 64, 12, class, host, list, fate)
 }

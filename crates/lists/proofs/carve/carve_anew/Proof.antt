@@ -4,4 +4,7 @@ use Rattle.lists.proofs.carve.carve_anew.Statement.{statement}
 use Rattle.lists.proofs.carve.carve_anew.Tie as tie
 
 pub carve-anew-spec : {M : Type 1} → statement M
-carve-anew-spec = tie.close (tie.spec (λ c κs. search needs) (λ c κs. search stock-pre) (λ c κs. search needs) (λ c κs. search needs) (λ c κs. search needs) (λ c κs. search needs) (λ c. search needs) (λ c. search carve-done))
+carve-anew-spec =
+    tie.close
+    (tie.spec
+    (λ c κs. search needs) (λ c κs. search stock-pre) (λ c. search needs) (λ c κs. search needs) (λ c κs. search needs) (λ c κs. search needs) (λ c. search needs) (λ c. search carve-done))

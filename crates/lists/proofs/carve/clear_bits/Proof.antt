@@ -1,4 +1,4 @@
-use Rattle.lists.proofs.CarveSteps.{ClearInv, word-pre, clear-start, clear-again, clear-done}
+use Rattle.lists.proofs.CarveSteps.{ClearInv, clear-start, clear-again, clear-done}
 use Prim.Native.Nat.{_-_}
 use borrow.Author.Needs.{needs}
 use Rattle.lists.proofs.carve.clear_bits.Statement.{statement}
@@ -11,4 +11,7 @@ abbrev μ-loop : tie.MeasureT-loop
 μ-loop meta₀ q k i₀ meta i = k - i
 
 pub clear-bits-spec : {M : Type 1} → statement M
-clear-bits-spec = tie.close (tie.spec Inv-loop μ-loop (λ c. search clear-start) (λ c κs. search (needs, word-pre)) (λ c. search needs) (λ c. search needs) (λ c. search clear-again) (λ c. search needs) (λ c. search clear-done))
+clear-bits-spec =
+    tie.close
+    (tie.spec
+    Inv-loop μ-loop (λ c. search clear-start) (λ c κs. search needs) (λ c κs. search needs) (λ c. search needs) (λ c. search needs) (λ c. clear-again _ _ _ _ _ _ _ (c .before .before .before .before .before .before .before .before .loop-test .taken) (c .before .before .before .before .before .before .before .before .before .loop .inv) (c .before .before .before .before .before .before .clear-word .ensures) (c .before .before .set-word .ensures)) (λ c. search needs) (λ c. search clear-done))
