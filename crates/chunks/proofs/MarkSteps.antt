@@ -8,7 +8,7 @@ use mathlib.Core.Path.{_≡_, refl, sym, ap, _∙_}
 use lib.Dec.{ltb}
 use lib.ListN.{length, getD, drop, length-drop}
 use lib.Seq.{drop-cons, drop-drop}
-use borrow.Author.Tests.{lt-ltb, le-leb, ltb-true, ltb-false}
+use borrow.Author.Tests.{lt-ltb, le-leb, ltb-true}
 use Rattle.facts.specs.Lists.{every, distinct}
 use Rattle.facts.proofs.Bools.{and-left, and-right}
 use Rattle.facts.proofs.Lists.{drop-past, every-get}
@@ -37,23 +37,18 @@ use Rattle.chunks.proofs.MatchLaws.{low-page}
 use Rattle.chunks.specs.way.Pass.{cleared}
 use Rattle.chunks.specs.way.CallPre.{passFault, testFault}
 use Rattle.chunks.specs.way.Marks.{pageClean, ownCount, ownBook, sweep, takePages, clearPages}
-use Rattle.chunks.specs.way.MarkPre.{OwnPre, OwnMarked, SweepPre, CleanPre, MarkedPre, TryPre, MatchedPre, SetPre, TookMarked, Tried}
+use Rattle.chunks.specs.way.ValidPre.{ChunksValidPre}
+use Rattle.chunks.specs.way.MarkPre.{OwnPre, OwnMarked, SweepPre, CleanPre, TryPre, SetPre, Tried}
 use Rattle.chunks.proofs.PageMarks.{own-count, own-book, fresh-within, none-counted, none-left, none-marked, ready-words, clears-own, takes-own}
 use Rattle.chunks.proofs.CallTests.{chunks-valid-kept, match-is}
 
 -- ---- a chunk's page
-module _ (n : ℕ) (b : List ℕ) (c : ℕ) (sh : Shape) (m g : ℕ) (a : CleanPre n b c sh m) (u : Bool) (e : u ≡ isPage n g) where
-  pub chunk-fits : u ≡ true → pageOf g < 2 ^ 32
-  unfolding isPage
-  chunk-fits x = omega (arith, ltb-true (pageOf g) n (sym e ∙ x), a .class .few)
+pub chunk-fits : (n : ℕ) (b : List ℕ) (c : ℕ) (sh : Shape) (m g : ℕ) → CleanPre n b c sh m → isPage n g ≡ true → pageOf g < 2 ^ 32
+unfolding isPage
+chunk-fits n b c sh m g a e = omega (arith, ltb-true (pageOf g) n e, a .class .few)
 
-  no-run : n ≤ pageOf g → (t : Bool) → t ≡ whole n b sh c (pageOf g) → t ≡ false
-  no-run l true k = absurd (omega (arith, a .class .sound .paged, within-arena n c sh (a .class .sound) (pageOf g) b (sym k)))
-  no-run l false k = refl
-
-  pub not-inside : u ≡ false → false ≡ pageClean n b c sh m g
-  unfolding isPage pageClean
-  not-inside x = rw (no-run (ltb-false (pageOf g) n (sym e ∙ x)) (whole n b sh c (pageOf g)) refl)
+pub chunk-in : (n : ℕ) (gs : List ℕ) (i : ℕ) → every (isPage n) gs ≡ true → i < length gs → isPage n (getD gs i 0) ≡ true
+chunk-in n gs i e l = every-get (isPage n) gs i e l
 
 module _ (n : ℕ) (b : List ℕ) (c : ℕ) (sh : Shape) (m g q : ℕ) (e : q ≡ pageOf g) (t : Bool) (k : t ≡ whole n b sh c q) where
   pub not-run : t ≡ false → false ≡ pageClean n b c sh m g
@@ -154,18 +149,6 @@ module _ (n : ℕ) (b : List ℕ) (sh : Shape) (ws : List ℕ) (a : OwnPre n b s
       let d : drop i ws ≡ [] = drop-past ws i l in
       record { answer = omega (arith, rw d at (v .answer)); left = rw d at (v .left) }
 
--- ---- from the marked book on
-module _ (n : ℕ) (b : List ℕ) (c : ℕ) (sh : Shape) (m : ℕ) (gs : List ℕ) (a : MarkedPre n b c sh m gs) where
-  pub marked-sweeps : SweepPre n b m gs
-  marked-sweeps = record { few = a .few; pages = record { few = a .valid .class .few; long = a .valid .class .long; below = a .valid .below } }
-
-  module _ (t : Bool) (e : t ≡ chunksValid n b c sh gs) (b′ : List ℕ) where
-    pub marks-taken : t ≡ true → b′ ≡ takePages b m gs → TookMarked true b′ n b c sh m gs
-    marks-taken x y = let z : chunksValid n b c sh gs ≡ true = sym e ∙ x in record { answer = sym z; left = rw z y }
-
-    pub marks-cleared : t ≡ false → b′ ≡ clearPages b m gs → TookMarked false b′ n b c sh m gs
-    marks-cleared x y = let z : chunksValid n b c sh gs ≡ false = sym e ∙ x in record { answer = sym z; left = rw z y }
-
 -- ---- the chunks' pages have no mark set
 module _ (n : ℕ) (b : List ℕ) (c : ℕ) (sh : Shape) (m : ℕ) (ws gs : List ℕ) (a : SetPre n b c sh m ws gs) where
   sound : Sound sh
@@ -230,14 +213,11 @@ module _ (n : ℕ) (b : List ℕ) (c : ℕ) (sh : Shape) (m : ℕ) (ws gs : List
       known : AllFresh sh sound pageAt n c b ws
       known = all-fresh sh sound pageAt n c b ws (ready-words sh sound one m few all n c b gs ws (a .ready) has .0) counted
 
-      pub marked-pre : MarkedPre n b′ c sh m gs
-      marked-pre = record {
-        few = few;
-        valid = record {
-          class = record { known = a .matching .all .call .class .known; sound = sound; few = a .matching .all .call .class .few; long = long-now };
-          below = low;
-          chunks = a .matching .all .chunks;
-        };
+      pub valid-pre : ChunksValidPre n b′ c sh gs
+      valid-pre = record {
+        class = record { known = a .matching .all .call .class .known; sound = sound; few = a .matching .all .call .class .few; long = long-now };
+        below = low;
+        chunks = a .matching .all .chunks;
       }
 
       no-fault : outFault n b c sh ws ≡ 0
@@ -260,34 +240,35 @@ module _ (n : ℕ) (b : List ℕ) (c : ℕ) (sh : Shape) (m : ℕ) (ws gs : List
       taken-is : takePages b′ m gs ≡ cleared b sh ws
       taken-is = rw (z .left) (takes-own sh sound one m few all n c b gs ws (a .ready) has apart long words-low counted)
 
-      cleared-is : clearPages b′ m gs ≡ b
-      cleared-is = rw (z .left) (clears-own sh sound one m few all n c b gs ws (a .ready) has)
-
-      pub all-taken : (r : Bool) (b″ : List ℕ) → TookMarked r b″ n b′ c sh m gs → Tried r b″ n b c sh ws gs
-      all-taken r b″ x =
-          let e : r ≡ chunksValid n b c sh gs = x .answer ∙ valid-same in
-          record { passed = λ t. passes (sym e ∙ t); left = x .left ∙ rw (valid-same, ← e, taken-is, cleared-is) }
+      pub all-taken : (t : Bool) (b″ : List ℕ) → t ≡ chunksValid n b′ c sh gs → t ≡ true → b″ ≡ takePages b′ m gs → Tried true b″ n b c sh ws gs
+      all-taken t b″ e x f = record { passed = λ y. passes (sym valid-same ∙ sym e ∙ x); left = f ∙ taken-is }
 
 -- ---- the chunks are the list's
 module _ (n : ℕ) (b : List ℕ) (c : ℕ) (sh : Shape) (ws gs : List ℕ) where
-  pub not-tried : Tried false b n b c sh ws gs
+  not-tried : Tried false b n b c sh ws gs
   not-tried = record { passed = λ x. absurd (true≢false (sym x)); left = refl }
 
-  module _ (a : MatchedPre n b c sh ws gs) (m : ℕ) (i : m ≡ outWords sh) where
-    pub clean-pre : CleanPre n b c sh m
-    clean-pre = record { few = omega (arith, a .all .call .class .sound .few); class = a .all .call .class }
+  pub try-sound : TryPre n b c sh gs → Sound sh
+  try-sound a = a .call .class .sound
 
-    pub set-pre : (t : Bool) → t ≡ every (pageClean n b c sh m) gs → t ≡ true → SetPre n b c sh m ws gs
-    set-pre t e x = record { matching = a; all = i; ready = sym e ∙ x }
+  module _ (a : TryPre n b c sh gs) (t : Bool) (b′ : List ℕ) (k : Matched t b′ n b ws gs) where
+    pub not-matched : Tried false b′ n b c sh ws gs
+    not-matched = rw (k .left) not-tried
 
-  -- ---- from number 11 on
-  module _ (a : TryPre n b c sh gs) where
-    module _ (t : Bool) (b′ : List ℕ) (k : Matched t b′ n b ws gs) where
-      pub matched-pre : t ≡ true → MatchedPre n b′ c sh ws gs
-      matched-pre y = rw (k .left) (record { all = a; matched = sym (k .answer) ∙ y })
+    module _ (y : t ≡ true) where
+      matched : arenaMatch n ws gs ≡ true
+      matched = sym (k .answer) ∙ y
+
+      pub pages-there : every (isPage n) gs ≡ true
+      unfolding arenaMatch
+      pages-there = and-left (every (isPage n) gs) _ matched
+
+      module _ (m : ℕ) (i : m ≡ outWords sh) where
+        pub clean-pre : CleanPre n b′ c sh m
+        clean-pre = rw (k .left) (record { few = omega (arith, a .call .class .sound .few); class = a .call .class })
+
+        pub set-pre : (u : Bool) → u ≡ every (pageClean n b′ c sh m) gs → u ≡ true → SetPre n b′ c sh m ws gs
+        set-pre u e x = record { matching = rw (k .left) (record { all = a; matched = matched }); all = i; ready = sym e ∙ x }
 
       pub matched-on : (r : Bool) (b″ : List ℕ) → Tried r b″ n b′ c sh ws gs → Tried r b″ n b c sh ws gs
       matched-on r b″ z = rw (k .left) at z
-
-      pub not-matched : Tried false b′ n b c sh ws gs
-      not-matched = rw (k .left) not-tried

@@ -1,9 +1,10 @@
 // The listed blocks marked, each on the page that has its granule, and the marks of the chunks' pages taken or cleared.
+ghost use mathlib.Core.Bool.{true};
 ghost use mathlib.Core.Path.{_≡_};
 ghost use Rattle.facts.specs.Lists.{every};
+ghost use Rattle.chunks.specs.way.Match.{isPage};
 ghost use Rattle.chunks.specs.way.Marks.{pageClean, takePages, clearPages};
 ghost use Rattle.chunks.specs.way.MarkPre.{OwnPre, OwnMarked, SweepPre, CleanPre};
-use super::naming::is_page;
 use classes::Shape;
 use pages::chunk_page;
 use pages::page_within;
@@ -15,19 +16,19 @@ use release::take_marks;
 // Whether a chunk's page is a run of the class, and its first m words of marks are 0.
 fn page_clean(meta: &[u32], n: u32, c: u32, shape: Shape, m: u32, chunk: u64) -> bool
     requires { ⌜ CleanPre n (now meta) c shape m ⌝ }
+    requires { ⌜ isPage n chunk ≡ true ⌝ }
     ensures { λ r. ⌜ r ≡ pageClean n (now (meta .entry)) c shape m chunk ⌝ }
 {
-    if is_page(n, chunk) {
-        let q = chunk_page(chunk);
-        if lists::whole(meta, n, c, shape, q) {
-            return no_marks(meta, q, m);
-        }
+    let q = chunk_page(chunk);
+    if lists::whole(meta, n, c, shape, q) {
+        return no_marks(meta, q, m);
     }
     false
 }
 
 pub fn pages_clean(meta: &[u32], n: u32, c: u32, shape: Shape, m: u32, chunks: &[u64]) -> bool
     requires { ⌜ CleanPre n (now meta) c shape m ⌝ }
+    requires { ⌜ every (isPage n) (now chunks) ≡ true ⌝ }
     ensures { λ r. ⌜ r ≡ every (pageClean n (now (meta .entry)) c shape m) (now (chunks .entry)) ⌝ }
 {
     let mut i = 0;

@@ -8,7 +8,7 @@ ghost use Rattle.chunks.specs.way.TallyPre.{NamePre, Named};
 use pages::chunk_page;
 use words::Word;
 
-pub fn is_page(n: u32, g: u64) -> bool
+fn is_page(n: u32, g: u64) -> bool
     ensures { λ r. ⌜ r ≡ isPage n g ⌝ }
 {
     Word::of(g).page() < n as u64

@@ -59,23 +59,13 @@ fn count_destination(s: Stores, destination: Destination) -> Stores
     requires { ⌜ WithDestinationPre s ⌝ }
     ensures { λ r. ⌜ r ≡ withDestination s destination ⌝ }
 {
+    let mut counts = s;
     match destination {
-        Destination::ToEmpty => Stores {
-            empties: s.empties + 1,
-            colds: s.colds,
-            runs: s.runs,
-        },
-        Destination::ToCold => Stores {
-            empties: s.empties,
-            colds: s.colds + 1,
-            runs: s.runs,
-        },
-        Destination::ToArena => Stores {
-            empties: s.empties,
-            colds: s.colds,
-            runs: s.runs + 1,
-        },
+        Destination::ToEmpty => counts.empties += 1,
+        Destination::ToCold => counts.colds += 1,
+        Destination::ToArena => counts.runs += 1,
     }
+    counts
 }
 
 fn count_chunk(meta: &[u32], shape: Shape, limits: Limits, chunk: u64, s: Stores) -> Stores

@@ -52,7 +52,7 @@ module _ (sh : Shape) (s : Sound sh) (x : ℕ) (l : x < sh .capacity * sh .block
       let y : x * inverse (sh .block) % 2 ^ 32 < inverse (sh .block) = behind-point x (sh .block) near (s .wide) (narrow sh s) z in
       omega (arith, rw (s .inverts) at h)
 
-module _ (sh : Shape) (q w g x : ℕ) (s : Sound sh) (below : q < maxPages) (e : g ≡ granuleOf w) (u : (x + (q * 4096 + sh .header)) % 2 ^ 64 ≡ g) where
+module _ (sh : Shape) (q w v g x : ℕ) (s : Sound sh) (below : q < maxPages) (d : v ≡ w) (e : g ≡ granuleOf v) (u : (x + (q * 4096 + sh .header)) % 2 ^ 64 ≡ g) where
   pub past-blocks : x < 2 ^ 64 → sh .capacity * sh .block ≤ x → Nothing ≡ blockAt sh q w
   past-blocks f h = by (isBlock sh q w) refl
     where
@@ -143,9 +143,9 @@ module _ (sh : Shape) (q base span w x : ℕ) (a : Near sh q base span) (u : (x 
 
     pub inside-none : sh .inverse ≤ x * sh .inverse % 2 ^ 32 → Nothing ≡ blockIn sh q w
     inside-none h =
-        let z = none-found (isBlock sh q w) (indexOf sh q w) (between-blocks sh q w (granuleOf w) x (a .sound) starts-low refl granule-is granules h) in
+        let z = none-found (isBlock sh q w) (indexOf sh q w) (between-blocks sh q w w (granuleOf w) x (a .sound) starts-low refl refl granule-is granules h) in
         none-in (simp (z, and-false))
 
     pub inside-at : x * sh .inverse % 2 ^ 32 < sh .inverse → At (x * sh .inverse / 2 ^ 32) ≡ blockIn sh q w
     inside-at h =
-        rw kind-is (a-block sh q w (granuleOf w) x (a .sound) starts-low refl granule-is granules h)
+        rw kind-is (a-block sh q w w (granuleOf w) x (a .sound) starts-low refl refl granule-is granules h)

@@ -1,11 +1,11 @@
 -- Blocks of one word of marks, marked at once.
 --     bits-idle ..           the ways out of `mark_bits`
 --     one-bit, fresh-at      of one block
---     from-top, from-low     n + 1 of them: the highest first, and the lowest
+--     splits                 n + 1 of them: one first, and the others
 use Prim.Native.Nat.{ℕ, zero, suc, _+_, _-_, _*_, _/_, _%_, _^_, _≤_, _<_}
 use native.Mathlib.Omega.{arith}
 use native.Mathlib.Decide.{ℕ-discrete}
-use native.Mathlib.Nat.{le-refl, mod-eq-of-lt, eq-of-mul-eq-mul-right}
+use native.Mathlib.Nat.{le-refl, mod-eq-of-lt, eq-of-mul-eq-mul-right, mul-le-mul-right}
 use mathlib.Core.Bool.{Bool, true, false, not, _&&_}
 use mathlib.Core.List.{List}
 use mathlib.Core.Path.{_≡_, refl, sym, ap, _∙_}
@@ -17,7 +17,7 @@ use lib.Seq.{getD-set-same, getD-set-other, set-set}
 use borrow.Author.Tests.{eq-eqb, ne-eqb, eqb-true}
 use Rattle.facts.proofs.Bools.{and-left, and-right}
 use Rattle.fields.specs.Field.{bits, mark, read, place, get, put}
-use Rattle.fields.proofs.Parts.{below, above, read-le, read-small, read-place-other}
+use Rattle.fields.proofs.Parts.{Split, below, above, read-le, read-small, read-place-other, place-comm}
 use Rattle.fields.specs.way.OutBits.{outWord, outsAt}
 use Rattle.release.specs.way.Marks.{setMark, freshAt, freshBits, setBits}
 use Rattle.release.specs.way.MarkPre.{MarkedBits, MarkedBlock}
@@ -94,80 +94,58 @@ module _ (b : List ℕ) (q i j s : ℕ) (e : i ≡ 32 * j + s) (h : s < 32) wher
   pub set-at : setMark b q i ≡ setBits b q j s 1
   set-at = rw (word-of-it, bit-of-it)
 
--- ---- one bit and n others
-twice : (n : ℕ) → 2 ^ suc n ≡ 2 * 2 ^ n
-twice n = let z : suc n ≡ 1 + n = omega arith in ap (λ k. 2 ^ k) z ∙ pow-add 2 1 n
+-- ---- c bits above a others
+ones-apart : (c a p r : ℕ) → a < p → c < r → c * p + a ≡ r * p - 1 → (c ≡ r - 1) × (a ≡ p - 1)
+ones-apart c a p r l h e =
+    elim (ℕ-discrete (c + 1) r) [
+      | yes z ↦ let k : r * p ≡ c * p + p = ap (λ x. x * p) (sym z) ∙ omega arith in (omega arith, omega arith)
+      | no z ↦ let k : (c + 2) * p ≤ r * p = mul-le-mul-right p (omega (arith, z)) in absurd (omega arith)
+    ]
 
-top-one : (c a p : ℕ) → c < 2 → a < p → c * p + a ≡ 2 * p - 1 → (c ≡ 1) × (a ≡ p - 1)
-top-one zero a p h l e = absurd (omega arith)
-top-one (suc zero) a p h l e = (refl, omega arith)
-top-one (suc (suc c)) a p h l e = absurd (omega arith)
+none-apart : (c a p : ℕ) → 0 < p → c * p + a ≡ 0 → (c ≡ 0) × (a ≡ 0)
+none-apart zero a p h e = (refl, omega arith)
+none-apart (suc c) a p h e = absurd (omega arith)
 
-top-none : (c a p : ℕ) → 0 < p → c * p + a ≡ 0 → (c ≡ 0) × (a ≡ 0)
-top-none zero a p h e = (refl, omega arith)
-top-none (suc c) a p h e = absurd (omega arith)
+ones-product : (p r u v : ℕ) → p ≡ u + 1 → r ≡ v + 1 → r * p - 1 ≡ u * v + u + v
+ones-product p r u v d e = rw (d, e) (omega arith)
 
-low-one : (c a p : ℕ) → 0 < p → a < 2 → c * 2 + a ≡ 2 * p - 1 → (a ≡ 1) × (c ≡ p - 1)
-low-one c a p h l e = (omega arith, omega arith)
+set-sums : (w x p y a c u v t : ℕ) → p ≡ u + 1 → y ≡ x * p → t ≡ u * v + u + v → (c * p + a) * x ≤ w → w - a * x + u * x - c * y + v * y ≡ w - (c * p + a) * x + t * x
+set-sums w x p y a c u v t d e f h = let l : (c * (u + 1) + a) * x ≤ w = rw d at h in rw (e, f, d) (omega arith)
 
-low-none : (c a : ℕ) → c * 2 + a ≡ 0 → (a ≡ 0) × (c ≡ 0)
-low-none c a e = (omega arith, omega arith)
+module _ (s m c a w : ℕ) (e : m ≡ c + a) where
+  parts : w / 2 ^ s % 2 ^ m ≡ w / 2 ^ (s + a) % 2 ^ c * 2 ^ a + w / 2 ^ s % 2 ^ a
+  parts = ap (λ k. w / 2 ^ s % 2 ^ k) e ∙ mod-pow-add (w / 2 ^ s) c a ∙ rw shr-shr
 
-top-sums : (w x p y a c u t : ℕ) → 0 < p → y ≡ x * p → u ≡ p - 1 → t ≡ 2 * p - 1 → (c * p + a) * x ≤ w → w - c * y + 1 * y - a * x + u * x ≡ w - (c * p + a) * x + t * x
-top-sums w x zero y a c u t z e f g h = absurd (omega arith)
-top-sums w x (suc m) y a c u t z e f g h =
-    let f′ : u ≡ m = omega arith in
-    let g′ : t ≡ 2 * m + 1 = omega arith in
-    rw (e, f′, g′) (sums (omega arith))
-  where
-    sums : (c * m + c + a) * x ≤ w → w - c * (x * suc m) + 1 * (x * suc m) - a * x + m * x ≡ w - (c * suc m + a) * x + (2 * m + 1) * x
-    sums h = omega arith
+  all-is : 2 ^ m - 1 ≡ 2 ^ c * 2 ^ a - 1
+  all-is = ap (λ k. 2 ^ k - 1) e ∙ ap (λ k. k - 1) (pow-add 2 c a)
 
-low-sums : (w x p y a c u t : ℕ) → 0 < p → y ≡ x * 2 → u ≡ p - 1 → t ≡ 2 * p - 1 → (c * 2 + a) * x ≤ w → w - a * x + 1 * x - c * y + u * y ≡ w - (c * 2 + a) * x + t * x
-low-sums w x zero y a c u t z e f g h = absurd (omega arith)
-low-sums w x (suc m) y a c u t z e f g h =
-    let f′ : u ≡ m = omega arith in
-    let g′ : t ≡ 2 * m + 1 = omega arith in
-    rw (e, f′, g′) (omega arith)
+  ones-in : w / 2 ^ s % 2 ^ m ≡ 2 ^ m - 1 → (w / 2 ^ (s + a) % 2 ^ c ≡ 2 ^ c - 1) × (w / 2 ^ s % 2 ^ a ≡ 2 ^ a - 1)
+  ones-in h = ones-apart _ _ (2 ^ a) (2 ^ c) (read-small s a w) (read-small (s + a) c w) (sym parts ∙ h ∙ all-is)
 
-module _ (s n w : ℕ) where
-  top-part : w / 2 ^ s % 2 ^ suc n ≡ w / 2 ^ (s + n) % 2 ^ 1 * 2 ^ n + w / 2 ^ s % 2 ^ n
-  top-part = let z : suc n ≡ 1 + n = omega arith in ap (λ k. w / 2 ^ s % 2 ^ k) z ∙ mod-pow-add (w / 2 ^ s) 1 n ∙ rw shr-shr
+  none-in : w / 2 ^ s % 2 ^ m ≡ 0 → (w / 2 ^ (s + a) % 2 ^ c ≡ 0) × (w / 2 ^ s % 2 ^ a ≡ 0)
+  none-in h = none-apart _ _ (2 ^ a) (pow-pos a) (sym parts ∙ h)
 
-  low-part : w / 2 ^ s % 2 ^ suc n ≡ w / 2 ^ (s + 1) % 2 ^ n * 2 ^ 1 + w / 2 ^ s % 2 ^ 1
-  low-part = let z : suc n ≡ n + 1 = omega arith in ap (λ k. w / 2 ^ s % 2 ^ k) z ∙ mod-pow-add (w / 2 ^ s) n 1 ∙ rw shr-shr
+  low-first : place (bits (s + a) c) (place (bits s a) w (2 ^ a - 1)) (2 ^ c - 1) ≡ place (bits s m) w (2 ^ m - 1)
+  low-first =
+      let k : place (bits s a) w (2 ^ a - 1) / 2 ^ (s + a) % 2 ^ c ≡ w / 2 ^ (s + a) % 2 ^ c = read-place-other w (2 ^ a - 1) (below (le-refl (s + a))) in
+      let l : (w / 2 ^ (s + a) % 2 ^ c * 2 ^ a + w / 2 ^ s % 2 ^ a) * 2 ^ s ≤ w = rw (← parts) (read-le s m w 0) in
+      let z : 2 ^ a ≡ 2 ^ a - 1 + 1 = omega (arith, pow-pos a) in
+      let y : 2 ^ c ≡ 2 ^ c - 1 + 1 = omega (arith, pow-pos c) in
+      rw (k, parts, mod-eq-of-lt (ones-lt a), mod-eq-of-lt (ones-lt c), mod-eq-of-lt (ones-lt m))
+      (set-sums w (2 ^ s) (2 ^ a) (2 ^ (s + a)) (w / 2 ^ s % 2 ^ a) (w / 2 ^ (s + a) % 2 ^ c) (2 ^ a - 1) (2 ^ c - 1) (2 ^ m - 1) z (pow-add 2 s a) (all-is ∙ ones-product (2 ^ a) (2 ^ c) (2 ^ a - 1) (2 ^ c - 1) z y) l)
 
-  ones-top : w / 2 ^ s % 2 ^ suc n ≡ 2 ^ suc n - 1 → (w / 2 ^ (s + n) % 2 ^ 1 ≡ 1) × (w / 2 ^ s % 2 ^ n ≡ 2 ^ n - 1)
-  ones-top e = top-one _ _ (2 ^ n) (read-small (s + n) 1 w) (read-small s n w) (sym top-part ∙ e ∙ ap (λ k. k - 1) (twice n))
+  high-first : place (bits s a) (place (bits (s + a) c) w (2 ^ c - 1)) (2 ^ a - 1) ≡ place (bits s m) w (2 ^ m - 1)
+  high-first = place-comm w (2 ^ c - 1) (2 ^ a - 1) (above {n = c} (le-refl (s + a))) ∙ low-first
 
-  none-top : w / 2 ^ s % 2 ^ suc n ≡ 0 → (w / 2 ^ (s + n) % 2 ^ 1 ≡ 0) × (w / 2 ^ s % 2 ^ n ≡ 0)
-  none-top e = top-none _ _ (2 ^ n) (pow-pos n) (sym top-part ∙ e)
+-- ---- the same in the book: of n + 1 bits from s on one comes first, the lowest upwards and the highest downwards; where the others begin
+abbrev pub firstBit : Bool → ℕ → ℕ → ℕ
+firstBit true s n = s
+firstBit false s n = s + n
 
-  ones-low : w / 2 ^ s % 2 ^ suc n ≡ 2 ^ suc n - 1 → (w / 2 ^ s % 2 ^ 1 ≡ 1) × (w / 2 ^ (s + 1) % 2 ^ n ≡ 2 ^ n - 1)
-  ones-low e = low-one _ _ (2 ^ n) (pow-pos n) (read-small s 1 w) (sym low-part ∙ e ∙ ap (λ k. k - 1) (twice n))
+abbrev pub others : Bool → ℕ → ℕ
+others true s = s + 1
+others false s = s
 
-  none-low : w / 2 ^ s % 2 ^ suc n ≡ 0 → (w / 2 ^ s % 2 ^ 1 ≡ 0) × (w / 2 ^ (s + 1) % 2 ^ n ≡ 0)
-  none-low e = low-none _ _ (sym low-part ∙ e)
-
-  keeps-low : place (bits (s + n) 1) w 1 / 2 ^ s % 2 ^ n ≡ w / 2 ^ s % 2 ^ n
-  keeps-low = read-place-other w 1 (above {n = 1} (le-refl (s + n)))
-
-  keeps-top : place (bits s 1) w 1 / 2 ^ (s + 1) % 2 ^ n ≡ w / 2 ^ (s + 1) % 2 ^ n
-  keeps-top = read-place-other w 1 (below (le-refl (s + 1)))
-
-  set-top : place (bits s n) (place (bits (s + n) 1) w 1) (2 ^ n - 1) ≡ place (bits s (suc n)) w (2 ^ suc n - 1)
-  set-top =
-      let l : (w / 2 ^ (s + n) % 2 ^ 1 * 2 ^ n + w / 2 ^ s % 2 ^ n) * 2 ^ s ≤ w = rw (← top-part) (read-le s (suc n) w 0) in
-      rw (keeps-low, top-part, mod-eq-of-lt (ones-lt n), mod-eq-of-lt (ones-lt (suc n)))
-      (top-sums w (2 ^ s) (2 ^ n) (2 ^ (s + n)) (w / 2 ^ s % 2 ^ n) (w / 2 ^ (s + n) % 2 ^ 1) (2 ^ n - 1) (2 ^ suc n - 1) (pow-pos n) (pow-add 2 s n) refl (ap (λ k. k - 1) (twice n)) l)
-
-  set-low : place (bits (s + 1) n) (place (bits s 1) w 1) (2 ^ n - 1) ≡ place (bits s (suc n)) w (2 ^ suc n - 1)
-  set-low =
-      let l : (w / 2 ^ (s + 1) % 2 ^ n * 2 ^ 1 + w / 2 ^ s % 2 ^ 1) * 2 ^ s ≤ w = rw (← low-part) (read-le s (suc n) w 0) in
-      rw (keeps-top, low-part, mod-eq-of-lt (ones-lt n), mod-eq-of-lt (ones-lt (suc n)))
-      (low-sums w (2 ^ s) (2 ^ n) (2 ^ (s + 1)) (w / 2 ^ s % 2 ^ 1) (w / 2 ^ (s + 1) % 2 ^ n) (2 ^ n - 1) (2 ^ suc n - 1) (pow-pos n) (pow-add 2 s 1) refl (ap (λ k. k - 1) (twice n)) l)
-
--- ---- the same in the book
 pub record Splits (b : List ℕ) (q j s n t m : ℕ) : Type 0 where
   pub first : freshBits b q j t 1 ≡ true
   pub rest : freshBits (setBits b q j t 1) q j m n ≡ true
@@ -196,22 +174,24 @@ module _ (b : List ℕ) (q j : ℕ) (l : 40144 + 4112 * q + j < length b) where
     marks-none : read (bits s (suc n)) (get b (mark q j)) ≡ 0
     marks-none = eqb-true _ _ (and-right (eqb (read (bits s (suc n)) (getD b (outWord q j) 0)) (2 ^ suc n - 1)) _ f)
 
-    pub from-top : Splits b q j s n (s + n) s
-    from-top =
-        let o = ones-top s n (getD b (outWord q j) 0) outs-ones in
-        let z = none-top s n (get b (mark q j)) marks-none in
+    split : (t m : ℕ) → Split (bits t 1) (bits m n) → read (bits t 1) (getD b (outWord q j) 0) ≡ 1 → read (bits m n) (getD b (outWord q j) 0) ≡ 2 ^ n - 1
+        → read (bits t 1) (get b (mark q j)) ≡ 0 → read (bits m n) (get b (mark q j)) ≡ 0
+        → place (bits m n) (place (bits t 1) (get b (mark q j)) 1) (2 ^ n - 1) ≡ place (bits s (suc n)) (get b (mark q j)) (2 ^ suc n - 1) → Splits b q j s n t m
+    split t m d o p z y e =
         record {
-          first = fresh-is b (s + n) 1 (o .0) (z .0);
-          rest = fresh-is (setBits b q j (s + n) 1) s n (ap (read (bits s n)) (outs-then (s + n)) ∙ o .1) (ap (read (bits s n)) (marks-then (s + n)) ∙ keeps-low s n (get b (mark q j)) ∙ z .1);
-          both = set-again (s + n) s n ∙ ap (put b (mark q j)) (set-top s n (get b (mark q j)));
+          first = fresh-is b t 1 o z;
+          rest = fresh-is (setBits b q j t 1) m n (ap (read (bits m n)) (outs-then t) ∙ p) (ap (read (bits m n)) (marks-then t) ∙ read-place-other (get b (mark q j)) 1 d ∙ y);
+          both = set-again t m n ∙ ap (put b (mark q j)) e;
         }
 
-    pub from-low : Splits b q j s n s (s + 1)
-    from-low =
-        let o = ones-low s n (getD b (outWord q j) 0) outs-ones in
-        let z = none-low s n (get b (mark q j)) marks-none in
-        record {
-          first = fresh-is b s 1 (o .0) (z .0);
-          rest = fresh-is (setBits b q j s 1) (s + 1) n (ap (read (bits (s + 1) n)) (outs-then s) ∙ o .1) (ap (read (bits (s + 1) n)) (marks-then s) ∙ keeps-top s n (get b (mark q j)) ∙ z .1);
-          both = set-again s (s + 1) n ∙ ap (put b (mark q j)) (set-low s n (get b (mark q j)));
-        }
+    pub splits : (up : Bool) → Splits b q j s n (firstBit up s n) (others up s)
+    splits true =
+        let e : suc n ≡ n + 1 = omega arith in
+        let o = ones-in s (suc n) n 1 (getD b (outWord q j) 0) e outs-ones in
+        let z = none-in s (suc n) n 1 (get b (mark q j)) e marks-none in
+        split s (s + 1) (below (le-refl (s + 1))) (o .1) (o .0) (z .1) (z .0) (low-first s (suc n) n 1 (get b (mark q j)) e)
+    splits false =
+        let e : suc n ≡ 1 + n = omega arith in
+        let o = ones-in s (suc n) 1 n (getD b (outWord q j) 0) e outs-ones in
+        let z = none-in s (suc n) 1 n (get b (mark q j)) e marks-none in
+        split (s + n) s (above {n = 1} (le-refl (s + n))) (o .0) (o .1) (z .0) (z .1) (high-first s (suc n) 1 n (get b (mark q j)) e)

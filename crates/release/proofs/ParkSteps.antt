@@ -80,12 +80,6 @@ module _ (sh : Shape) (h : ℕ) where
   pub page-virgin : (v : ℕ) (r : Bool) → (sh .kind ≡ 2 → ⊥) → v ≡ h → r ≡ discardZeroed v → r ≡ coldVirgin sh h
   page-virgin v r d e k = rw (ne-eqb (sh .kind) 2 d) (k ∙ rw e (sym (and-true (discardZeroed h))))
 
-  pub span-kept : sh .kind ≡ 2 → 0 ≡ fateOf sh ToCold
-  span-kept e = rw (eq-eqb (sh .kind) 2 e)
-
-  pub page-cold : (sh .kind ≡ 2 → ⊥) → 1 ≡ fateOf sh ToCold
-  page-cold d = rw (ne-eqb (sh .kind) 2 d)
-
 module _ (b : List ℕ) (c : ℕ) (sh : Shape) (h q : ℕ) where
   pub carve-changes : (v : Bool) → Sound sh → Changes moves b (carveAnew b sh q v)
   carve-changes v s = changes-carve moves b q refl refl (λ i. refl) sh v refl (s .few)
@@ -109,8 +103,11 @@ module _ (sh : Shape) (s : Destination) where
   pub fate-empty : s ≡ ToEmpty → 0 ≡ fateOf sh s
   fate-empty e = rw e
 
-  pub fate-cold : (r : ℕ) → s ≡ ToCold → r ≡ fateOf sh ToCold → r ≡ fateOf sh s
-  fate-cold r e k = rw e k
+  pub span-kept : s ≡ ToCold → sh .kind ≡ 2 → 0 ≡ fateOf sh s
+  span-kept e k = rw (e, eq-eqb (sh .kind) 2 k)
+
+  pub page-cold : s ≡ ToCold → (sh .kind ≡ 2 → ⊥) → 1 ≡ fateOf sh s
+  page-cold e d = rw (e, ne-eqb (sh .kind) 2 d)
 
   pub fate-arena : s ≡ ToArena → 2 ≡ fateOf sh s
   fate-arena e = rw e

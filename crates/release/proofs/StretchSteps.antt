@@ -1,22 +1,24 @@
 -- Words that go on by one block from each to the next: their blocks in one word of marks are marked at once, as one by one.
 --     Stretching ..        the loop of `stretch`
---     went-up, went-down   what `mark_up` and `mark_down` come to
+--     went                 what `mark_along` comes to
 use Prim.Native.Nat.{ℕ, zero, suc, _+_, _-_, _*_, _/_, _%_, _^_, _≤_, _<_, min}
 use native.Mathlib.Omega.{arith}
 use native.Mathlib.Decide.{ℕ-discrete}
 use native.Mathlib.Nat.{mul-le-mul-right, mul-div-cancel}
-use mathlib.Core.Bool.{Bool, true, false, _&&_}
+use mathlib.Core.Bool.{Bool, true, false, _&&_, _||_}
 use mathlib.Core.List.{List, [], _∷_}
 use mathlib.Core.Path.{_≡_, refl, sym, ap, _∙_, subst}
-use lib.Dec.{leb}
+use lib.Dec.{eqb, leb}
 use lib.ListN.{length, getD, drop, length-drop}
 use lib.Seq.{getD-drop, drop-drop}
 use borrow.Author.Tests.{leb-true, le-leb, lt-ltb, eq-eqb, eqb-true}
 use Rattle.facts.proofs.Bools.{and-left, and-right}
 use Rattle.words.specs.Word.{kindOf, granuleOf}
 use Rattle.classes.specs.declared.Shape.{Shape}
-use Rattle.fields.specs.Field.{mark, words, Has}
-use Rattle.fields.proofs.Laws.{length-put}
+use Rattle.classes.specs.way.Sound.{Sound}
+use Rattle.fields.specs.Field.{bits, mark, read, place, get, put, words, Has}
+use Rattle.fields.proofs.Laws.{length-put, put-get}
+use Rattle.fields.proofs.Parts.{place-read}
 use Rattle.model.specs.Page.{wordOf}
 use Rattle.model.specs.Release.{ofKind}
 use Rattle.pages.specs.Stack.{blocksFrom, indexOf, isBlock}
@@ -24,10 +26,10 @@ use Rattle.release.specs.declared.Found.{Found}
 use Rattle.release.specs.declared.Found.the-variants.{At}
 use Rattle.release.specs.way.Blocks.{blockIn}
 use Rattle.release.specs.way.Marks.{setMark, freshAt, markedIn, freshIn, freshCount, freshBook, freshBits, setBits, countBy, bookBy}
-use Rattle.release.specs.way.MarkPre.{Near, MarkedBits, Stretched, Reaches, Alone}
+use Rattle.release.specs.way.MarkPre.{stepOf, roomOf, lowestOf, Near, MarkedBits, Stretched, Reaches, Alone}
 use Rattle.release.proofs.Bits.{from-block, at-block, below-capacity}
 use Rattle.release.proofs.BlockSteps.{found-at, outside}
-use Rattle.release.proofs.MarkBits.{fresh-at, set-at, from-top, from-low}
+use Rattle.release.proofs.MarkBits.{fresh-at, set-at, firstBit, others, splits}
 use Rattle.release.proofs.MarkSteps.{fresh-in, stays}
 
 -- ---- the loop of `stretch`
@@ -68,6 +70,11 @@ alone-last sh q ws i h = record { told = λ t l. absurd (omega arith) }
 down-by : (base t d k block step : ℕ) → t ≡ d + k → k * step + k * block ≡ k * 2 ^ 64 → base + t * block + k * step ≡ base + d * block + k * 2 ^ 64
 down-by base t d k block step z x = rw z (omega arith)
 
+-- block k behind block t, upwards or downwards
+abbrev onward : Bool → ℕ → ℕ → ℕ
+onward true t k = t + k
+onward false t k = t - k
+
 pub record Names (sh : Shape) (q v k : ℕ) : Type 0 where
   pub is : (ofKind (sh .kind) v && isBlock sh q v) ≡ true
   pub index : indexOf sh q v ≡ k
@@ -104,23 +111,82 @@ module _ (sh : Shape) (q base span : ℕ) (a : Near sh q base span) where
       let i : (granuleOf v - blocksFrom sh q) / sh .block ≡ k = ap (λ t. t / sh .block) d ∙ mul-div-cancel k (a .sound .wide) in
       record { is = rw (eq-eqb _ _ y, le-leb _ _ f, i, eq-eqb _ _ (sym d), lt-ltb _ _ l); index = i }
 
-  module _ (ws : List ℕ) (i t n step room : ℕ) (f : Names sh q (getD ws i 0) t) (s : Stretched n ws step i room) where
-    pub names-up : step ≡ sh .block → n ≤ sh .capacity - t → (k : ℕ) → k < n → Names sh q (getD ws (i + k) 0) (t + k)
-    names-up e h k l =
-        let m = near-blocks (t + k) (omega arith) in
-        names (getD ws (i + k) 0) (t + k) (omega arith) (s .each k l ∙ rw (e, word-is (getD ws i 0) t f) (omega (arith, base-is, a .sound .known, a .sound .fits, a .sound .short, a .below)))
+  onward-low : (up : Bool) (t k : ℕ) → t < sh .capacity → k < roomOf sh t up → onward up t k < sh .capacity
+  onward-low true t k h l = omega arith
+  onward-low false t k h l = omega arith
 
-    pub names-down : (step + sh .block) % 2 ^ 64 ≡ 0 → step < 2 ^ 64 → sh .block < 2 ^ 32 → n ≤ t + 1 → (k : ℕ) → k < n → Names sh q (getD ws (i + k) 0) (t - k)
-    names-down e o p h k l =
-        let r : t < sh .capacity = index-low (getD ws i 0) t f in
-        let d = t - k in
-        let z : t ≡ d + k = omega arith in
-        let m = near-blocks d (omega arith) in
-        let y : step + sh .block ≡ 2 ^ 64 = omega (arith, a .sound .wide) in
-        let x : k * step + k * sh .block ≡ k * 2 ^ 64 = omega (arith, ap (λ v. k * v) y) in
-        let u : base + t * sh .block + k * step ≡ base + d * sh .block + k * 2 ^ 64 = down-by base t d k (sh .block) step z x in
-        let w : (base + d * sh .block + k * 2 ^ 64) % 2 ^ 64 ≡ base + d * sh .block = omega (arith, base-is, a .sound .known, a .sound .fits, a .sound .short, a .below) in
-        names (getD ws (i + k) 0) d (omega arith) (s .each k l ∙ rw (word-is (getD ws i 0) t f) (ap (λ v. v % 2 ^ 64) u ∙ w))
+  moved : (up : Bool) (t k step : ℕ) → step ≡ stepOf sh up → t < sh .capacity → k < roomOf sh t up → (base + t * sh .block + k * step) % 2 ^ 64 ≡ base + onward up t k * sh .block
+  moved true t k step e h l =
+      let m = near-blocks (t + k) (omega arith) in
+      rw e (omega (arith, base-is, a .sound .known, a .sound .fits, a .sound .short, a .below))
+  moved false t k step e h l =
+      let d = t - k in
+      let z : t ≡ d + k = omega arith in
+      let m = near-blocks t h in
+      let o = near-blocks d (omega arith) in
+      let y : step + sh .block ≡ 2 ^ 64 = omega arith in
+      let x : k * step + k * sh .block ≡ k * 2 ^ 64 = omega (arith, ap (λ v. k * v) y) in
+      let u : base + t * sh .block + k * step ≡ base + d * sh .block + k * 2 ^ 64 = down-by base t d k (sh .block) step z x in
+      ap (λ v. v % 2 ^ 64) u ∙ omega (arith, base-is, a .sound .known, a .sound .fits, a .sound .short, a .below)
+
+  names-on : (up : Bool) (ws : List ℕ) (i t n step room : ℕ) → Names sh q (getD ws i 0) t → Stretched n ws step i room → step ≡ stepOf sh up → room ≡ roomOf sh t up
+      → (k : ℕ) → k < n → Names sh q (getD ws (i + k) 0) (onward up t k)
+  names-on up ws i t n step room f s e m k l =
+      let h = index-low (getD ws i 0) t f in
+      let o : k < roomOf sh t up = omega (arith, s .most) in
+      names (getD ws (i + k) 0) (onward up t k) (onward-low up t k h o) (s .each k l ∙ rw (word-is (getD ws i 0) t f) (moved up t k step e h o))
+
+-- ---- their bits, the lowest of which is s
+-- of n words the bit of word k
+abbrev bitOf : Bool → ℕ → ℕ → ℕ → ℕ
+bitOf true s n k = s + k
+bitOf false s n k = s + (n - 1 - k)
+
+first-is : (up : Bool) (s n : ℕ) → bitOf up s (suc n) 0 ≡ firstBit up s n
+first-is true s n = omega arith
+first-is false s n = omega arith
+
+first-fits : (up : Bool) (s n : ℕ) → s + suc n ≤ 32 → firstBit up s n < 32
+first-fits true s n h = omega arith
+first-fits false s n h = omega arith
+
+others-are : (up : Bool) (s n k : ℕ) → k < n → bitOf up s (suc n) (suc k) ≡ bitOf up (others up s) n k
+others-are true s n k l = omega arith
+others-are false s n k l = omega arith
+
+others-fit : (up : Bool) (s n : ℕ) → s + suc n ≤ 32 → others up s + n ≤ 32
+others-fit true s n h = omega arith
+others-fit false s n h = omega arith
+
+-- of n bits the lowest
+module _ (s n : ℕ) (up : Bool) where
+  pub lowest-up : up ≡ true → s ≡ lowestOf s n up
+  lowest-up e = rw e
+
+  pub lowest-down : up ≡ false → s + 1 - n ≡ lowestOf s n up
+  lowest-down e = rw e
+
+  pub lowest-left : (up ≡ false → n ≤ s + 1) → up ≡ false → n ≤ s + 1
+  lowest-left h e = h e
+
+module _ (sh : Shape) (t : ℕ) where
+  pub room-up : (up : Bool) (x : ℕ) → up ≡ true → x ≡ min (32 - t % 32) (sh .capacity - t) → x ≡ roomOf sh t up
+  room-up up x e h = rw e h
+
+  pub room-down : (up : Bool) → up ≡ false → t % 32 + 1 ≡ roomOf sh t up
+  room-down up e = rw e
+
+  room-one : (up : Bool) → t < sh .capacity → 1 ≤ roomOf sh t up
+  room-one true h = omega arith
+  room-one false h = omega arith
+
+  bits-fit : (up : Bool) (n : ℕ) → 1 ≤ n → n ≤ roomOf sh t up → (lowestOf (t % 32) n up < 32) × (lowestOf (t % 32) n up + n ≤ 32)
+  bits-fit true n h l = (omega arith, omega arith)
+  bits-fit false n h l = (omega arith, omega arith)
+
+  bit-is : (up : Bool) (n k : ℕ) → k < n → n ≤ roomOf sh t up → onward up t k ≡ 32 * (t / 32) + bitOf up (lowestOf (t % 32) n up) n k
+  bit-is true n k h l = omega arith
+  bit-is false n k h l = omega arith
 
 -- ---- their blocks, one by one
 module _ (sh : Shape) (q j : ℕ) where
@@ -148,55 +214,38 @@ module _ (sh : Shape) (q j : ℕ) where
   there-still : (b : List ℕ) (t : ℕ) → 40144 + 4112 * q + j < length b → 40144 + 4112 * q + j < length (setBits b q j t 1)
   there-still b t l = rw (length-put b (mark q j)) l
 
-  one-more : (x : ℕ) → suc x ≡ 1 + x
-  one-more x = omega arith
+  none-more : (x : ℕ) → x ≡ 0 + x
+  none-more x = omega arith
 
   more : (n x : ℕ) → suc (n + x) ≡ suc n + x
   more n x = omega arith
 
-  pub pass-up : (n : ℕ) (b ws : List ℕ) (s : ℕ) → 1 ≤ n → 40144 + 4112 * q + j < length b → s + n ≤ 32 → n ≤ length ws
-      → ((k : ℕ) → k < n → Names sh q (getD ws k 0) (32 * j + (s + k))) → freshBits b q j s n ≡ true → Passed n b s ws
-  pass-up zero b ws s p l h m o f = absurd (omega arith)
-  pass-up (suc n) b [] s p l h m o f = absurd (omega arith)
-  pass-up (suc zero) b (w ∷ ws) s p l h m o f =
-      let e : (s + 0) ≡ s = omega arith in
-      let z = subst (λ t. Names sh q w (32 * j + t)) e (o 0 (omega arith)) in
-      record { count = one-count b w s ws (omega arith) z f ∙ one-more _; book = one-book b w s ws (omega arith) z f }
-  pass-up (suc (suc n)) b (w ∷ ws) s p l h m o f =
-      let e : (s + 0) ≡ s = omega arith in
-      let z = subst (λ t. Names sh q w (32 * j + t)) e (o 0 (omega arith)) in
-      let c = from-low b q j l s (suc n) f in
-      let r = pass-up (suc n) (setBits b q j s 1) ws (s + 1) (omega arith) (there-still b s l) (omega arith) (omega arith) rest (c .rest) in
+  set-none : (b : List ℕ) (s : ℕ) → setBits b q j s 0 ≡ b
+  set-none b s =
+      let z : read (bits s 0) (get b (mark q j)) ≡ 0 = omega arith in
+      ap (put b (mark q j)) (ap (place (bits s 0) (get b (mark q j))) (sym z) ∙ place-read (bits s 0) (get b (mark q j))) ∙ put-get b (mark q j)
+
+  pub pass : (up : Bool) (n : ℕ) (b ws : List ℕ) (s : ℕ) → 40144 + 4112 * q + j < length b → s + n ≤ 32 → n ≤ length ws
+      → ((k : ℕ) → k < n → Names sh q (getD ws k 0) (32 * j + bitOf up s n k)) → freshBits b q j s n ≡ true → Passed n b s ws
+  pass up zero b ws s l h m o f =
+      let z = sym (set-none b s) in
+      record { count = ap (λ d. freshCount d sh q ws) z ∙ none-more _; book = ap (λ d. freshBook d sh q ws) z }
+  pass up (suc n) b [] s l h m o f = absurd (omega arith)
+  pass up (suc n) b (w ∷ ws) s l h m o f =
+      let t = firstBit up s n in
+      let z = subst (λ t. Names sh q w (32 * j + t)) (first-is up s n) (o 0 (omega arith)) in
+      let d = first-fits up s n h in
+      let c = splits b q j l s n f up in
+      let r = pass up n (setBits b q j t 1) ws (others up s) (there-still b t l) (others-fit up s n h) (omega arith) rest (c .rest) in
       record {
-        count = one-count b w s ws (omega arith) z (c .first) ∙ ap suc (r .count) ∙ more (suc n) _ ∙ ap (λ d. suc (suc n) + freshCount d sh q (drop (suc n) ws)) (c .both);
-        book = one-book b w s ws (omega arith) z (c .first) ∙ r .book ∙ ap (λ d. freshBook d sh q (drop (suc n) ws)) (c .both);
+        count = one-count b w t ws d z (c .first) ∙ ap suc (r .count) ∙ more n _ ∙ ap (λ d. suc n + freshCount d sh q (drop n ws)) (c .both);
+        book = one-book b w t ws d z (c .first) ∙ r .book ∙ ap (λ d. freshBook d sh q (drop n ws)) (c .both);
       }
     where
-      rest : (k : ℕ) → k < suc n → Names sh q (getD ws k 0) (32 * j + (s + 1 + k))
-      rest k y = let e : (s + suc k) ≡ (s + 1 + k) = omega arith in subst (λ t. Names sh q (getD ws k 0) (32 * j + t)) e (o (suc k) (omega arith))
+      rest : (k : ℕ) → k < n → Names sh q (getD ws k 0) (32 * j + bitOf up (others up s) n k)
+      rest k y = subst (λ t. Names sh q (getD ws k 0) (32 * j + t)) (others-are up s n k y) (o (suc k) (omega arith))
 
-  pub pass-down : (n : ℕ) (b ws : List ℕ) (s : ℕ) → 1 ≤ n → 40144 + 4112 * q + j < length b → s + n ≤ 32 → n ≤ length ws
-      → ((k : ℕ) → k < n → Names sh q (getD ws k 0) (32 * j + (s + (n - 1 - k)))) → freshBits b q j s n ≡ true → Passed n b s ws
-  pass-down zero b ws s p l h m o f = absurd (omega arith)
-  pass-down (suc n) b [] s p l h m o f = absurd (omega arith)
-  pass-down (suc zero) b (w ∷ ws) s p l h m o f =
-      let e : (s + (1 - 1 - 0)) ≡ s = omega arith in
-      let z = subst (λ t. Names sh q w (32 * j + t)) e (o 0 (omega arith)) in
-      record { count = one-count b w s ws (omega arith) z f ∙ one-more _; book = one-book b w s ws (omega arith) z f }
-  pass-down (suc (suc n)) b (w ∷ ws) s p l h m o f =
-      let e : (s + (suc (suc n) - 1 - 0)) ≡ s + suc n = omega arith in
-      let z = subst (λ t. Names sh q w (32 * j + t)) e (o 0 (omega arith)) in
-      let c = from-top b q j l s (suc n) f in
-      let r = pass-down (suc n) (setBits b q j (s + suc n) 1) ws s (omega arith) (there-still b (s + suc n) l) (omega arith) (omega arith) rest (c .rest) in
-      record {
-        count = one-count b w (s + suc n) ws (omega arith) z (c .first) ∙ ap suc (r .count) ∙ more (suc n) _ ∙ ap (λ d. suc (suc n) + freshCount d sh q (drop (suc n) ws)) (c .both);
-        book = one-book b w (s + suc n) ws (omega arith) z (c .first) ∙ r .book ∙ ap (λ d. freshBook d sh q (drop (suc n) ws)) (c .both);
-      }
-    where
-      rest : (k : ℕ) → k < suc n → Names sh q (getD ws k 0) (32 * j + (s + (suc n - 1 - k)))
-      rest k y = let e : (s + (suc (suc n) - 1 - suc k)) ≡ (s + (suc n - 1 - k)) = omega arith in subst (λ t. Names sh q (getD ws k 0) (32 * j + t)) e (o (suc k) (omega arith))
-
--- ---- the ways out of `mark_up` and `mark_down`
+-- ---- the ways out of `mark_along`
 module _ (sh : Shape) (q : ℕ) (b b′ : List ℕ) (ws : List ℕ) (i : ℕ) (r : Bool) (j s n : ℕ) (o : MarkedBits r b′ b q j s n) where
   pub held-back : r ≡ false → i < length ws → Reaches i b′ b sh q ws i
   held-back z l =
@@ -219,44 +268,48 @@ module _ (sh : Shape) (q base span : ℕ) (a : Near sh q base span) (b b′ : Li
       let z = found-at (ofKind (sh .kind) w && isBlock sh q w) (indexOf sh q w) t (sym g ∙ e) in
       record { is = z .0; index = sym (z .1) }
 
-  found-low : t < sh .capacity
+  pub found-low : t < sh .capacity
   found-low = index-low sh q base span a (getD ws i 0) t named
 
-  pub found-below : t ≤ sh .capacity
-  found-below = omega (arith, found-low)
-
-  pub room-up : (room : ℕ) → room ≡ min (32 - t % 32) (sh .capacity - t) → 1 ≤ room
-  room-up room m = omega (arith, found-low)
-
-  pub found-there : words (q + 1) ≤ length b → Has b (mark q (t / 32))
+  found-there : words (q + 1) ≤ length b → Has b (mark q (t / 32))
   found-there h = omega (arith, found-low, a .sound .few)
 
-  module _ (n step room : ℕ) (s : Stretched n ws step i room) (h : words (q + 1) ≤ length b) (r : Bool) where
-    l : Has b (mark q (t / 32))
-    l = found-there h
+  module _ (up : Bool) (room : ℕ) (m : room ≡ roomOf sh t up) where
+    pub room-some : 1 ≤ room
+    room-some = rw m (room-one sh t up found-low)
 
-    left-over : n ≤ length (drop i ws)
-    left-over = rw (length-drop i ws) (omega (arith, s .within))
+    module _ (n step : ℕ) (s : Stretched n ws step i room) where
+      within : n ≤ roomOf sh t up
+      within = omega (arith, s .most)
 
-    pub went-up : step ≡ sh .block → room ≡ min (32 - t % 32) (sh .capacity - t) → MarkedBits r b′ b q (t / 32) (t % 32) n → r ≡ true → Reaches (i + n) b′ b sh q ws i
-    went-up u m o z =
-        let d : n ≤ sh .capacity - t = omega (arith, s .most) in
-        let y : freshBits b q (t / 32) (t % 32) n ≡ true = sym (o .answer) ∙ z in
-        passes-on sh q b b′ ws i r (t / 32) (t % 32) n o z (s .within)
-        (pass-up sh q (t / 32) n b (drop i ws) (t % 32) (s .some) l (omega (arith, s .most)) left-over (each d) y)
-      where
-        each : n ≤ sh .capacity - t → (k : ℕ) → k < n → Names sh q (getD (drop i ws) k 0) (32 * (t / 32) + (t % 32 + k))
-        each h k y =
-            let x : t + k ≡ 32 * (t / 32) + (t % 32 + k) = omega arith in
-            rw (getD-drop i ws k 0) (subst (Names sh q (getD ws (i + k) 0)) x (names-up sh q base span a ws i t n step room named s u h k y))
+      pub top-low : up ≡ false → n ≤ t % 32 + 1
+      top-low e = rw e at within
 
-    pub went-down : (step + sh .block) % 2 ^ 64 ≡ 0 → step < 2 ^ 64 → sh .block < 2 ^ 32 → room ≡ t % 32 + 1 → MarkedBits r b′ b q (t / 32) (room - n) n → r ≡ true → Reaches (i + n) b′ b sh q ws i
-    went-down u v w m o z =
-        let y : freshBits b q (t / 32) (room - n) n ≡ true = sym (o .answer) ∙ z in
-        passes-on sh q b b′ ws i r (t / 32) (room - n) n o z (s .within)
-        (pass-down sh q (t / 32) n b (drop i ws) (room - n) (s .some) l (omega (arith, s .most)) left-over each y)
-      where
-        each : (k : ℕ) → k < n → Names sh q (getD (drop i ws) k 0) (32 * (t / 32) + (room - n + (n - 1 - k)))
-        each k y =
-            let x : t - k ≡ 32 * (t / 32) + (room - n + (n - 1 - k)) = omega (arith, s .most) in
-            rw (getD-drop i ws k 0) (subst (Names sh q (getD ws (i + k) 0)) x (names-down sh q base span a ws i t n step room named s u v w (omega (arith, s .most)) k y))
+      module _ (low : ℕ) (v : low ≡ lowestOf (t % 32) n up) (h : words (q + 1) ≤ length b) where
+        pub bits-there : Has b (mark q (t / 32))
+        bits-there = found-there h
+
+        pub low-within : low < 32
+        low-within = rw v (bits-fit sh t up n (s .some) within .0)
+
+        pub bits-within : low + n ≤ 32
+        bits-within = rw v (bits-fit sh t up n (s .some) within .1)
+
+        pub went : (r : Bool) → step ≡ stepOf sh up → MarkedBits r b′ b q (t / 32) low n → r ≡ true → Reaches (i + n) b′ b sh q ws i
+        went r u o z =
+            let y : freshBits b q (t / 32) low n ≡ true = sym (o .answer) ∙ z in
+            let l : n ≤ length (drop i ws) = rw (length-drop i ws) (omega (arith, s .within)) in
+            passes-on sh q b b′ ws i r (t / 32) low n o z (s .within) (pass sh q (t / 32) up n b (drop i ws) low (found-there h) bits-within l each y)
+          where
+            each : (k : ℕ) → k < n → Names sh q (getD (drop i ws) k 0) (32 * (t / 32) + bitOf up low n k)
+            each k y =
+                rw (getD-drop i ws k 0, v) (subst (Names sh q (getD ws (i + k) 0)) (bit-is sh t up n k y within) (names-on sh q base span a up ws i t n step room named s u m k y))
+
+-- ---- the step to the next word
+pub step-is : (sh : Shape) (step x : ℕ) → Sound sh → sh .block < 2 ^ 32 → step < 2 ^ 64 → x ≡ (step + sh .block) % 2 ^ 64
+    → (eqb step (sh .block) || eqb x 0) ≡ true → step ≡ stepOf sh (eqb step (sh .block))
+step-is sh step x s l o e t = by (eqb step (sh .block)) refl t
+  where
+    by : (u : Bool) → eqb step (sh .block) ≡ u → (u || eqb x 0) ≡ true → step ≡ stepOf sh u
+    by true z y = eqb-true step (sh .block) z
+    by false z y = omega (arith, eqb-true x 0 y, s .wide)

@@ -3,7 +3,7 @@ ghost use mathlib.Core.Path.{_≡_};
 ghost use Prim.Native.Nat.{_+_, _%_, _^_, _<_};
 ghost use Rattle.classes.specs.way.Sound.{Sound};
 ghost use Rattle.fields.specs.Ranges.{maxPages};
-ghost use Rattle.words.specs.Word.{granuleOf, wordBits};
+ghost use Rattle.words.specs.Word.{wordBits};
 ghost use Rattle.release.specs.way.Blocks.{blockAt, blockIn, runAt, findOut};
 ghost use Rattle.release.specs.way.Pre.{ClassPre};
 ghost use Rattle.release.specs.way.MarkPre.{Near};
@@ -13,13 +13,6 @@ use classes::Shape;
 use lists::whole;
 use pages::page_at;
 use words::Word;
-
-// A word's granule.
-fn granule_of(w: u64) -> u64
-    ensures { λ r. ⌜ r ≡ granuleOf w ⌝ }
-{
-    Word::of(w).granule()
-}
 
 // How far a word lies behind another, wrapped.
 pub fn behind(w: u64, first: u64) -> u64
@@ -35,7 +28,7 @@ fn block_at(shape: Shape, q: u32, w: u64) -> Found
     requires { ⌜ q < maxPages ⌝ }
     ensures { λ r. ⌜ r ≡ blockAt shape q w ⌝ }
 {
-    let granule = granule_of(w);
+    let granule = Word::of(w).granule();
     let x = std::num::wrapping_sub_u64(granule, q as u64 * 4096 + shape.header as u64);
     if x >= (shape.capacity * shape.block) as u64 {
         return Found::Nothing;

@@ -12,6 +12,7 @@ pub use blocks::find_out;
 pub use kinds::all_of_kind;
 pub use marks::clear_marks;
 pub use marks::mark_run;
+pub use marks::marks_of;
 pub use marks::no_marks;
 pub use marks::take_marks;
 pub use one::release_one;

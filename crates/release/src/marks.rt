@@ -1,7 +1,8 @@
 // The words of marks of one run (document 02, A.3). A list's blocks are marked until one is not out in the run or is marked already: up to 32 at once
 // where they follow one another, as in a list that a take gave, else one by one. The marks are taken away 32 at once.
 ghost use mathlib.Core.Path.{_≡_};
-ghost use Prim.Native.Nat.{_+_, _/_, _≤_, _<_, min};
+ghost use mathlib.Core.Bool.{false};
+ghost use Prim.Native.Nat.{_+_, _-_, _/_, _≤_, _<_, min};
 ghost use lib.ListN.{length};
 ghost use Rattle.classes.specs.way.Sound.{Sound};
 ghost use Rattle.fields.specs.Field.{mark, Has};
@@ -9,11 +10,12 @@ ghost use Rattle.fields.specs.Clear.{clearMarks};
 ghost use Rattle.pages.specs.Carve.{outWords};
 ghost use Rattle.pages.specs.way.Pre.{ClearPre};
 ghost use Rattle.release.specs.way.Marks.{noMarks, takeWord, takeMarks};
-ghost use Rattle.release.specs.way.MarkPre.{FieldPre, Near, MarkedBits, MarkedBlock, MarkedOne, MarkedIn, MarkedTo, Stretched, Reaches, Alone};
+ghost use Rattle.release.specs.way.MarkPre.{stepOf, roomOf, lowestOf, FieldPre, Near, MarkedBits, MarkedBlock, MarkedOne, MarkedIn, MarkedTo, Stretched, Reaches, Alone};
 use super::Found;
 use super::blocks::behind;
 use super::blocks::block_in;
 use classes::Shape;
+use lists::min;
 use lists::word_of;
 
 // Whether the n blocks from 32 j + s on, whose bits are in one word, are out and not marked; they then are marked.
@@ -56,10 +58,13 @@ fn mark_one(meta: &mut [u32], shape: Shape, q: u32, base: u64, span: u32, w: u64
     mark_block(meta, q, i)
 }
 
-fn least(a: usize, b: usize) -> usize
-    ensures { λ r. ⌜ r ≡ min a b ⌝ }
+// How many words are left from place i on, at most `most`.
+fn words_left(list: &[u64], i: usize, most: usize) -> usize
+    requires { ⌜ i ≤ length (now list) ⌝ }
+    ensures { λ r. ⌜ r ≡ min most (length (now (list .entry)) - i) ⌝ }
 {
-    if a < b { a } else { b }
+    let left = list.len() - i;
+    if most < left { most } else { left }
 }
 
 // How many listed words from place i on, at most `room`, are each one step behind the one before.
@@ -68,7 +73,7 @@ fn stretch(list: &[u64], step: u64, i: usize, room: usize) -> usize
     requires { ⌜ 1 ≤ room ⌝ }
     ensures { λ r. ⌜ Stretched r (now (list .entry)) step i room ⌝ }
 {
-    let most = least(room, list.len() - i);
+    let most = words_left(list, i, room);
     let mut want = std::num::wrapping_add_u64(list[i], step);
     let mut n = 1;
     while n < most {
@@ -81,37 +86,30 @@ fn stretch(list: &[u64], step: u64, i: usize, room: usize) -> usize
     n
 }
 
-// The blocks from place i on that follow one another upwards and lie in one word of marks are marked at once: the place behind them. Where one
-// of them would stop the marking, none is marked: i.
-fn mark_up(
-    meta: &mut [u32],
-    shape: Shape,
-    q: u32,
-    base: u64,
-    span: u32,
-    list: &[u64],
-    i: usize,
-) -> usize
-    requires { ⌜ FieldPre (now meta) shape q ⌝ }
-    requires { ⌜ Near shape q base span ⌝ }
-    requires { ⌜ i < length (now list) ⌝ }
-    ensures { λ r. ⌜ Reaches r (now (meta .exit)) (now (meta .entry)) shape q (now (list .entry)) i ⌝ }
+// How many of the run's blocks from block t on, upwards or downwards, have their bits in its word of marks.
+fn room(shape: Shape, t: u32, up: bool) -> u32
+    requires { ⌜ t < shape .capacity ⌝ }
+    ensures { λ r. ⌜ r ≡ roomOf shape t up ⌝ }
 {
-    let block = block_in(shape, q, base, span, list[i]);
-    let Found::At(t) = block else {
-        return i;
-    };
-    let s = t % 32;
-    let room = least(32 - s as usize, (shape.capacity - t) as usize);
-    let n = stretch(list, shape.block as u64, i, room);
-    if mark_bits(meta, q, t / 32, s, n as u32) {
-        return i + n;
+    if up {
+        min(32 - t % 32, shape.capacity - t)
+    } else {
+        t % 32 + 1
     }
-    i
 }
 
-// The same downwards.
-fn mark_down(
+// The lowest of n bits that follow one another, the first of which is bit s.
+fn lowest(s: u32, n: u32, up: bool) -> u32
+    requires { ⌜ s < 32 ⌝ }
+    requires { ⌜ (up ≡ false → n ≤ s + 1) ⌝ }
+    ensures { λ r. ⌜ r ≡ lowestOf s n up ⌝ }
+{
+    if up { s } else { s + 1 - n }
+}
+
+// The blocks from place i on that follow one another by a step and lie in one word of marks are marked at once: the place behind them. Where one
+// of them would stop the marking, none is marked: i.
+fn mark_along(
     meta: &mut [u32],
     shape: Shape,
     q: u32,
@@ -119,20 +117,21 @@ fn mark_down(
     span: u32,
     list: &[u64],
     i: usize,
+    step: u64,
+    up: bool,
 ) -> usize
     requires { ⌜ FieldPre (now meta) shape q ⌝ }
     requires { ⌜ Near shape q base span ⌝ }
     requires { ⌜ i < length (now list) ⌝ }
+    requires { ⌜ step ≡ stepOf shape up ⌝ }
     ensures { λ r. ⌜ Reaches r (now (meta .exit)) (now (meta .entry)) shape q (now (list .entry)) i ⌝ }
 {
     let block = block_in(shape, q, base, span, list[i]);
     let Found::At(t) = block else {
         return i;
     };
-    let top = t % 32 + 1;
-    let step = std::num::wrapping_sub_u64(0, shape.block as u64);
-    let n = stretch(list, step, i, top as usize);
-    if mark_bits(meta, q, t / 32, top - n as u32, n as u32) {
+    let n = stretch(list, step, i, room(shape, t, up) as usize);
+    if mark_bits(meta, q, t / 32, lowest(t % 32, n as u32, up), n as u32) {
         return i + n;
     }
     i
@@ -155,11 +154,10 @@ fn mark_stretch(
 {
     if i + 1 < list.len() {
         let step = std::num::wrapping_sub_u64(list[i + 1], list[i]);
-        if step == shape.block as u64 {
-            return mark_up(meta, shape, q, base, span, list, i);
-        }
-        if std::num::wrapping_add_u64(step, shape.block as u64) == 0 {
-            return mark_down(meta, shape, q, base, span, list, i);
+        let up = step == shape.block as u64;
+        let down = std::num::wrapping_add_u64(step, shape.block as u64) == 0;
+        if up | down {
+            return mark_along(meta, shape, q, base, span, list, i, step, up);
         }
     }
     i
@@ -214,7 +212,7 @@ fn mark_by(
     while i < list.len() {
         let next = mark_stretch(meta, shape, q, base, span, list, i);
         if next == i {
-            let end = i + least(FEW, list.len() - i);
+            let end = i + words_left(list, i, FEW);
             let stop = mark_few(meta, shape, q, base, span, list, i, end);
             if stop != end {
                 return stop;

@@ -1,7 +1,6 @@
 // What becomes of a page whose blocks came back. Every word that is read here has passed its test.
 ghost use mathlib.Core.Path.{_≡_};
 ghost use mathlib.Core.List.{map};
-ghost use Rattle.model.specs.declared.Destination.the-variants.{ToCold};
 ghost use Rattle.model.specs.Destination.{fateOf};
 ghost use Rattle.pages.specs.way.Pre.{LinkPre};
 ghost use Rattle.pages.specs.Stack.{indexOf};
@@ -48,22 +47,18 @@ fn cold_virgin(shape: Shape, host: u32) -> bool
 }
 
 // A cold span counts as kept.
-fn cold_fate(shape: Shape) -> u32
-    ensures { λ r. ⌜ r ≡ fateOf shape ToCold ⌝ }
-{
-    if shape.kind == Word::MEDIUM {
-        KEPT_FATE
-    } else {
-        COLD_FATE
-    }
-}
-
 fn fate_of(shape: Shape, destination: Destination) -> u32
     ensures { λ r. ⌜ r ≡ fateOf shape destination ⌝ }
 {
     match destination {
         Destination::ToEmpty => KEPT_FATE,
-        Destination::ToCold => cold_fate(shape),
+        Destination::ToCold => {
+            if shape.kind == Word::MEDIUM {
+                KEPT_FATE
+            } else {
+                COLD_FATE
+            }
+        }
         Destination::ToArena => ARENA_FATE,
     }
 }

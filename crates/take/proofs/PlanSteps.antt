@@ -26,19 +26,11 @@ use Rattle.take.proofs.Fill.{fill-planned}
 
 -- ---- how many blocks a page gives
 module _ (b : List ℕ) (sh : Shape) (q m : ℕ) where
-  all-of : (m f k top : ℕ) → k ≤ top → f + (top - k) < m → f + (top - k) ≡ min m f + min (m - f) (top - k)
-  all-of m f k top l h = omega arith
+  given-of : (m f r : ℕ) → min (f + r) m ≡ min m f + min (m - f) r
+  given-of m f r = omega arith
 
-  wanted-of : (m f r : ℕ) → m ≤ f + r → m ≡ min m f + min (m - f) r
-  wanted-of m f r h = omega arith
-
-  pub supply-all : (f k : ℕ) → get b (page carved q) ≤ sh .capacity → f ≡ get b (page free q) → k ≡ get b (page carved q) → f + (sh .capacity - k) < m → f + (sh .capacity - k) ≡ length (latest b sh q m)
-  supply-all f k l e e′ h =
-      rw (latest-length b sh q m, ← e, ← e′)
-      (all-of m f k (sh .capacity) (rw e′ l) h)
-
-  pub supply-wanted : (f k : ℕ) → f ≡ get b (page free q) → k ≡ get b (page carved q) → m ≤ f + (sh .capacity - k) → m ≡ length (latest b sh q m)
-  supply-wanted f k e e′ h = rw (latest-length b sh q m, ← e, ← e′) (wanted-of m f (sh .capacity - k) h)
+  pub supply-is : (f k x : ℕ) → f ≡ get b (page free q) → k ≡ get b (page carved q) → x ≡ min (f + (sh .capacity - k)) m → x ≡ length (latest b sh q m)
+  supply-is f k x e e′ h = h ∙ rw (latest-length b sh q m, ← e, ← e′) (given-of m f (sh .capacity - k))
 
 -- ---- a page's own words
 module _ (b : List ℕ) (sh : Shape) (q : ℕ) where

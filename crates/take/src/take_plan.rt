@@ -22,12 +22,12 @@ pub enum Plan {
 }
 
 // How many blocks a page gives when m are wanted.
-pub fn supply(meta: &[u32], shape: Shape, q: u32, m: u32) -> u32
+fn supply(meta: &[u32], shape: Shape, q: u32, m: u32) -> u32
     requires { ⌜ SupplyPre (now meta) shape q ⌝ }
     ensures { λ r. ⌜ r ≡ length (latest (now (meta .entry)) shape q m) ⌝ }
 {
     let most = fields::page::free(meta, q) + (shape.capacity - fields::page::carved(meta, q));
-    if most < m { most } else { m }
+    lists::min(most, m)
 }
 
 // A page's own words are in their ranges, LISTED is l, and the page gives a block.

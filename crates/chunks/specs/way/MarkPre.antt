@@ -11,11 +11,10 @@ use Rattle.fields.specs.Field.{words}
 use Rattle.fields.specs.Ranges.{maxPages}
 use Rattle.model.specs.Chunks.{chunksMax}
 use Rattle.pages.specs.Carve.{outWords}
-use Rattle.calls.specs.Chunks.{chunksValid}
 use Rattle.release.specs.way.Pre.{ClassPre}
 use Rattle.chunks.specs.way.Match.{inArena, arenaMatch}
-use Rattle.chunks.specs.way.ValidPre.{PagesPre, ChunksValidPre}
-use Rattle.chunks.specs.way.Marks.{pageClean, ownCount, ownBook, takePages, clearPages}
+use Rattle.chunks.specs.way.ValidPre.{PagesPre}
+use Rattle.chunks.specs.way.Marks.{pageClean, ownCount, ownBook}
 use Rattle.chunks.specs.way.Pass.{cleared}
 use Rattle.chunks.specs.way.CallPre.{CallPre, testFault}
 
@@ -37,11 +36,6 @@ pub record CleanPre (n : ℕ) (b : List ℕ) (c : ℕ) (sh : Shape) (m : ℕ) : 
   pub few : m ≤ 128
   pub class : ClassPre n b c sh
 
--- all listed blocks are marked
-pub record MarkedPre (n : ℕ) (b : List ℕ) (c : ℕ) (sh : Shape) (m : ℕ) (gs : List ℕ) : Type 0 where
-  pub few : m ≤ 128
-  pub valid : ChunksValidPre n b c sh gs
-
 -- after numbers 7, 8 and 9
 pub record TryPre (n : ℕ) (b : List ℕ) (c : ℕ) (sh : Shape) (gs : List ℕ) : Type 0 where
   pub call : CallPre n b c sh
@@ -62,11 +56,6 @@ pub record SetPre (n : ℕ) (b : List ℕ) (c : ℕ) (sh : Shape) (m : ℕ) (ws 
 pub record OwnMarked (r : ℕ) (b′ b : List ℕ) (sh : Shape) (ws : List ℕ) : Type 0 where
   pub answer : r ≡ ownCount b sh ws
   pub left : b′ ≡ ownBook b sh ws
-
--- number 13's last test has passed and the marked blocks were taken, or the marks were cleared
-pub record TookMarked (r : Bool) (b′ : List ℕ) (n : ℕ) (b : List ℕ) (c : ℕ) (sh : Shape) (m : ℕ) (gs : List ℕ) : Type 0 where
-  pub answer : r ≡ chunksValid n b c sh gs
-  pub left : b′ ≡ cond (chunksValid n b c sh gs) (takePages b m gs) (clearPages b m gs)
 
 -- the listed blocks were taken, and no number applies; or nothing was changed
 -- Which lists go unrefused and are yet not taken is free: those of pages with a mark of a block that is not listed. They are taken by the tests, which follow.

@@ -1,5 +1,5 @@
 -- What marking and its tests ask and answer, and the book that they leave.
-use Prim.Native.Nat.{ℕ, _+_, _*_, _%_, _^_, _≤_, _<_}
+use Prim.Native.Nat.{ℕ, _+_, _-_, _*_, _%_, _^_, _≤_, _<_, min}
 use mathlib.Core.Bool.{Bool, true, false, cond}
 use mathlib.Core.List.{List}
 use mathlib.Core.Path.{_≡_}
@@ -51,6 +51,17 @@ pub record MarkedAll (r : Bool) (b′ b : List ℕ) (sh : Shape) (q : ℕ) (ws :
 pub record MarkedIn (r : ℕ) (b′ b : List ℕ) (sh : Shape) (q : ℕ) (ws : List ℕ) (i : ℕ) : Type 0 where
   pub answer : r ≡ i + freshCount b sh q (drop i ws)
   pub left : b′ ≡ freshBook b sh q (drop i ws)
+
+-- blocks that follow one another, upwards or downwards: from a word to the next in 64 bits; how many from block t on have their bits in
+-- its word of marks; of n bits the lowest, where bit s is the first
+abbrev pub stepOf : Shape → Bool → ℕ
+stepOf sh up = cond up (sh .block) (2 ^ 64 - sh .block)
+
+abbrev pub roomOf : Shape → ℕ → Bool → ℕ
+roomOf sh t up = cond up (min (32 - t % 32) (sh .capacity - t)) (t % 32 + 1)
+
+abbrev pub lowestOf : ℕ → ℕ → Bool → ℕ
+lowestOf s n up = cond up s (s + 1 - n)
 
 -- n words from place i on, each a step behind the one before, in 64 bits
 pub record Stretched (n : ℕ) (ws : List ℕ) (step i room : ℕ) : Type 0 where

@@ -1,4 +1,4 @@
-use Rattle.chunks.proofs.MarkSteps.{not-inside, chunk-fits, not-run, marks-there, clean-told}
+use Rattle.chunks.proofs.MarkSteps.{chunk-fits, not-run, marks-there, clean-told}
 use borrow.Author.Needs.{needs}
 use Rattle.chunks.proofs.marks.page_clean.Statement.{statement}
 use Rattle.chunks.proofs.marks.page_clean.Tie as tie
@@ -7,4 +7,4 @@ pub page-clean-spec : {M : Type 1} → statement M
 page-clean-spec =
     tie.close
     (tie.spec
-    (λ c κs. search needs) (λ c κs. search chunk-fits) (λ c κs. search needs) (λ c κs. search marks-there) (λ c. search clean-told) (λ c. search not-run) (λ c. search not-inside))
+    (λ c κs. search chunk-fits) (λ c κs. search needs) (λ c κs. search marks-there) (λ c. search clean-told) (λ c. search not-run))

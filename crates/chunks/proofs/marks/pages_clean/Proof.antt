@@ -2,6 +2,7 @@ use Prim.Native.Nat.{_-_}
 use lib.ListN.{length}
 use Rattle.release.proofs.EverySteps.{EveryInv, every-starts, every-goes-on, every-stops, every-ends}
 use Rattle.chunks.specs.way.Marks.{pageClean}
+use Rattle.chunks.proofs.MarkSteps.{chunk-in}
 use borrow.Author.Needs.{needs}
 use Rattle.chunks.proofs.marks.pages_clean.Statement.{statement}
 use Rattle.chunks.proofs.marks.pages_clean.Tie as tie
@@ -16,4 +17,4 @@ pub pages-clean-spec : {M : Type 1} → statement M
 pages-clean-spec =
     tie.close
     (tie.spec
-    Inv-loop μ-loop (λ c. search every-starts) (λ c. search needs) (λ c. search needs) (λ c κs. search needs) (λ c. search needs) (λ c. search needs) (λ c. search every-goes-on) (λ c. search every-stops) (λ c. search every-ends))
+    Inv-loop μ-loop (λ c. search every-starts) (λ c. search needs) (λ c. search needs) (λ c κs. (search needs, search chunk-in)) (λ c. search needs) (λ c. search needs) (λ c. search every-goes-on) (λ c. search every-stops) (λ c. search every-ends))

@@ -14,7 +14,7 @@ abbrev μ-loop : tie.MeasureT-loop
 
 returns : tie.Need-returns Inv-loop μ-loop
 returns c =
-    let l = c .before .before .before .before .before .least .ensures in
+    let l = c .before .before .before .before .before .words-left .ensures in
     let t = c .before .before .before .before .before .before .before .before .before .before .before .loop-test .taken in
     few-stop _ _ _ _ _ _ _ _ _ (c .before .before .before .before .before .before .before .before .before .before .before .before .loop .inv) (c .before .before .before .before .before .before .before .before .before .mark-stretch .ensures) (c .before .before .before .before .before .before .if1 .taken) _ _ _ (c .before .before .before .mark-few .ensures) (omega (arith, l, t)) (c .if2 .taken)
 
@@ -22,4 +22,4 @@ pub mark-by-spec : {M : Type 1} → statement M
 mark-by-spec =
     tie.close
     (tie.spec
-    Inv-loop μ-loop (λ c. search mark-starts) (λ c κs. search needs) (λ c. search needs) (λ c κs. search needs) (λ c. search needs) (λ c κs. search needs) (λ c. search needs) returns (λ c. search needs) (λ c. search few-on-to) (λ c. search needs) (λ c. search mark-goes-on) (λ c. search needs) (λ c. search mark-ends))
+    Inv-loop μ-loop (λ c. search mark-starts) (λ c κs. search needs) (λ c κs. search needs) (λ c. search needs) (λ c κs. search needs) (λ c. search needs) returns (λ c. search needs) (λ c. search few-on-to) (λ c. search needs) (λ c. search mark-goes-on) (λ c. search needs) (λ c. search mark-ends))

@@ -12,11 +12,8 @@ Inv-loop list step i room most want₀ n₀ want n = Stretching list step i most
 abbrev μ-loop : tie.MeasureT-loop
 μ-loop list step i room most want₀ n₀ want n = most - n
 
-sub-least : tie.Need-sub-least Inv-loop μ-loop
-sub-least c = search needs
-
-least-requires : tie.Need-least-requires Inv-loop μ-loop
-least-requires c κs = search needs
+words-left-requires : tie.Need-words-left-requires Inv-loop μ-loop
+words-left-requires c κs = search needs
 
 mul-wrapping-add-u64 : tie.Need-mul-wrapping-add-u64 Inv-loop μ-loop
 mul-wrapping-add-u64 c = search needs
@@ -66,8 +63,7 @@ stretch-spec =
     (tie.spec
     Inv-loop
     μ-loop
-    sub-least
-    least-requires
+    words-left-requires
     mul-wrapping-add-u64
     shared-slice-read-wrapping-add-u64
     wrapping-add-u64-requires
