@@ -36,7 +36,7 @@ use Rattle.take.specs.declared.call.Take as Taken
 use Rattle.take.specs.declared.call.Take.the-variants as Answer
 use Rattle.take.specs.declared.take_plan.Plan.{Plan}
 use Rattle.take.specs.declared.take_plan.Plan.the-variants.{Refused, Nothing, Fill}
-use Rattle.calls.specs.Take.{parkValid, Took, fromPartial, fromPark, onRun, takeNew, takeBlocks, takeCall}
+use Rattle.calls.specs.Take.{parkValid, Took, tookNone, fromPartial, fromPark, onRun, takeNew, takeBlocks, takeCall}
 use Rattle.take.specs.way.TakePlan.{TakePre, TakeRunPre, TakeNewPre, SourcePre, CallPre, ListPre, Granted, walksFrom, fills, Foretold, ParkedPre, firstStore, unparked, readied, FirstPre, FillPre, Filling}
 use Rattle.take.specs.way.TakeAnswer.{TakesInto, Serves, Readies, Plans, within, takeList, Exceeds, onRunAt}
 use Rattle.take.specs.Answer.{answerOf}
@@ -52,6 +52,10 @@ use Rattle.take.proofs.TakeParked.{parked-unparks, unparked-pre, unpark
 -- another way to say the same take
 said : {f g : List ℕ → Took} → ((l : List ℕ) → f l ≡ g l) → f ≡ g
 said h = λ i. λ l. h l i
+
+within-is : (k : ℕ) (b : List ℕ) (t : List ℕ → Took) (l : List ℕ) → t l .count ≤ k → within k b t l ≡ t l
+unfolding within
+within-is k b t l h = ap (λ z. cond z (tookNone b l 5) (t l)) (le-ltb k (t l .count) h)
 
 -- ---- a run of the arena
 module _ (b : List ℕ) (c : ℕ) (sh : Shape) (q : ℕ) where
@@ -199,7 +203,7 @@ module _ (n : ℕ) (b : List ℕ) (c : ℕ) (sh : Shape) (h : ℕ) where
     asked o = let g : h ≡ 15 = i (omega arith) in rw g (y (suc c) ∙ rw (lt-ltb k (min (sh .batch) (sh .capacity)) o))
 
     pub new-full : x ≡ true → Readies (Refused 5) b c sh (within k b (takeNew n b c sh h))
-    unfolding Readies
+    unfolding Readies within
     new-full e l =
         let o : k < min (sh .batch) (sh .capacity) = ltb-true k _ (and-left (ltb k (min (sh .batch) (sh .capacity))) _ (sym (y (suc c)) ∙ e)) in
         rw (run-count t (sym (asked o) ∙ e) l, lt-ltb k (min (sh .batch) (sh .capacity)) o) (record { answer = refl; book = refl; list = refl })
@@ -209,14 +213,14 @@ module _ (n : ℕ) (b : List ℕ) (c : ℕ) (sh : Shape) (h : ℕ) where
       told = rw add-one at a
 
       pub new-refused : (j : ℕ) → r ≡ Made.Refused j → Readies (Refused j) b₁ c sh (within k b (takeNew n b c sh h))
-      unfolding takeNew Readies
+      unfolding takeNew Readies within
       new-refused j f l =
           let u = answer-refused (commits .code) (commits .run) (commits .fresh) j (sym (told .answer) ∙ f) in
           let d : commits .code ≡ 0 → ⊥ = λ z. u .1 (sym (u .0) ∙ z) in
           rw (ne-eqb (commits .code) 0 d, u .0, le-ltb k 0 (omega arith)) (record { answer = numbered j (u .1); book = told .book ∙ refused-keeps d; list = refl })
 
       pub new-none : r ≡ Made.Nothing → Readies Nothing b₁ c sh (within k b (takeNew n b c sh h))
-      unfolding takeNew onRun Readies
+      unfolding takeNew onRun Readies within
       new-none f l =
           let u = answer-none (commits .code) (commits .run) (commits .fresh) (sym (told .answer) ∙ f) in
           rw (u .0, u .1, le-ltb k 0 (omega arith)) (record { answer = refl; book = told .book; list = refl })
@@ -234,12 +238,14 @@ module _ (n : ℕ) (b : List ℕ) (c : ℕ) (sh : Shape) (h : ℕ) where
         fits : min (sh .batch) (sh .capacity) ≤ k
         fits = by-cases (ltb k (min (sh .batch) (sh .capacity))) (λ w. absurd (false≢true (sym e ∙ asked (ltb-true k _ w) ∙ has-run))) (λ w. ltb-false k _ w)
 
+        is-run : (l : List ℕ) → takeNew n b c sh h l ≡ onRunAt b₁ c sh q l
+        unfolding takeNew
+        is-run l = rw (granted .0, granted .1, told .book)
+
         pub new-ready : (s : Plan) (b₂ : List ℕ) → Readies s b₂ c sh (onRunAt b₁ c sh q) → Readies s b₂ c sh (within k b (takeNew n b c sh h))
-        new-ready s b₂ p = let w : within k b (takeNew n b c sh h) ≡ onRunAt b₁ c sh q = said (λ l. rw (run-count t has-run l, le-ltb k (min (sh .batch) (sh .capacity)) fits) (is-run l)) in rw w p
-          where
-            is-run : (l : List ℕ) → takeNew n b c sh h l ≡ onRunAt b₁ c sh q l
-            unfolding takeNew
-            is-run l = rw (granted .0, granted .1, told .book)
+        new-ready s b₂ p =
+            let w : within k b (takeNew n b c sh h) ≡ onRunAt b₁ c sh q = said (λ l. within-is k b (takeNew n b c sh h) l (rw (run-count t has-run l) fits) ∙ is-run l) in
+            rw w p
 
 pub exceeds-not : (n : ℕ) (b : List ℕ) (sh : Shape) (k m : ℕ) → m ≡ min (sh .batch) (sh .capacity) → m ≤ k → Exceeds false k n b sh
 exceeds-not n b sh k m e o w = rw (le-ltb k (min (sh .batch) (sh .capacity)) (omega arith))
@@ -341,7 +347,7 @@ store-cold b c y e z = rw (← e, eq-eqb y 0 z)
 -- ---- it is made ready
 module _ (n : ℕ) (b : List ℕ) (c : ℕ) (sh : Shape) (p : Plan) (a : Plans p n b c sh) where
   pub made-refused : (h j k : ℕ) → p ≡ Refused k → Readies (Refused k) b c sh (within j b (takeBlocks n b c sh h))
-  unfolding Plans Readies
+  unfolding Plans Readies within
   made-refused h j k e l = let q = rw e at a in rw (q .1 h l, q .0, le-ltb j 0 (omega arith)) (record { answer = refl; book = refl; list = refl })
 
   pub made-pre : p ≡ Nothing → TakeNewPre n b c sh
@@ -365,18 +371,35 @@ module _ (n : ℕ) (b : List ℕ) (c : ℕ) (sh : Shape) (p : Plan) (a : Plans p
     made-first = let q = rw e at a in q .0
 
     pub made-full : (h j : ℕ) → j < m → Readies (Refused 5) b c sh (within j b (takeBlocks n b c sh h))
-    unfolding Readies
+    unfolding Readies within
     made-full h j o l = rw (counts h l, lt-ltb j m o) (record { answer = refl; book = refl; list = refl })
 
     pub made-ready : (h j : ℕ) (b₁ : List ℕ) → m ≤ j → b₁ ≡ readied b c → Readies (Fill m v) b₁ c sh (within j b (takeBlocks n b c sh h))
     unfolding Readies
     made-ready h j b₁ o e₁ =
         let s = serves h in
-        rw e₁ (record { pages = s .pages; pre = s .pre; walks = s .walks; count = s .count; virgin = s .virgin; is = λ l. rw (counts h l, le-ltb j m o) (s .is l) })
+        rw e₁ (record { pages = s .pages; pre = s .pre; walks = s .walks; count = s .count; virgin = s .virgin; is = λ l. within-is j b (takeBlocks n b c sh h) l (rw (counts h l) o) ∙ s .is l })
 
 -- ---- the call
 pub shape-pre : (w : Bool) (n : ℕ) (b : List ℕ) (c h : ℕ) (sh : Shape) → sh ≡ shapeOf c → ListPre w n b c h → SourcePre n b c sh
 shape-pre w n b c h sh e a = record { known = a .call .known; shape = rw e (shape-sound c); few = a .call .few; long = a .call .long }
+
+module _ (n : ℕ) (b : List ℕ) (c h : ℕ) (l : List ℕ) (sh : Shape) (r : Plan) (b₁ : List ℕ) (a : Readies r b₁ c sh (within (length l) b (takeBlocks n b c sh h))) (m : ℕ) (v : Bool) (e : r ≡ Fill m v) where
+  serving : Serves m v b₁ c sh (within (length l) b (takeBlocks n b c sh h))
+  unfolding Readies
+  serving = rw e at a
+
+  room : m ≤ length l
+  unfolding within
+  room =
+      let t = takeBlocks n b c sh h l in
+      let s = serving .is l in
+      by-cases (ltb (length l) (t .count))
+      (λ u. let z : within (length l) b (takeBlocks n b c sh h) l .code ≡ 5 = rw u in absurd (let y : _≡_ {A = ℕ} 5 0 = sym z ∙ ap (λ z. z .code) s in omega arith))
+      (λ u. let z : t .count ≡ m = (let y : within (length l) b (takeBlocks n b c sh h) l ≡ t = rw u in ap (λ z. z .count) (sym y ∙ s) ∙ sym (serving .count)) in omega (arith, ltb-false (length l) (t .count) u))
+
+  pub list-fills : FillPre b₁ c sh l m
+  list-fills = let s = serving in record { pages = s .pages; pre = s .pre; walks = s .walks; count = s .count; places = room }
 
 module _ (w : Bool) (n : ℕ) (b : List ℕ) (c h : ℕ) (l : List ℕ) (sh : Shape) (i : sh ≡ shapeOf c) where
   pub list-short : (w && ltb (length l) (sh .batch)) ≡ true → (m v : ℕ) → TakesInto 5 b l m m v v (takeList w n b c (shapeOf c) h l)
@@ -389,7 +412,7 @@ module _ (w : Bool) (n : ℕ) (b : List ℕ) (c h : ℕ) (l : List ℕ) (sh : Sh
     list-granted a s = a .granted (by-cases w (λ u. absurd (false≢true (sym o ∙ rw (u, lt-ltb (length l) (sh .batch) s)))) (λ u. u))
 
     list-is : takeList w n b c (shapeOf c) h l ≡ within (length l) b (takeBlocks n b c sh h) l
-    unfolding takeCall
+    unfolding takeCall within
     list-is =
         by-cases w
         (λ u.
@@ -407,26 +430,10 @@ module _ (w : Bool) (n : ℕ) (b : List ℕ) (c h : ℕ) (l : List ℕ) (sh : Sh
       unfolding Readies
       list-none m v e = let q = rw e at a in rw list-is (into-took _ b₁ l (Answer.Took 0 false) (q l) 0 m v false refl)
 
-      module _ (m : ℕ) (v : Bool) (e : r ≡ Fill m v) where
-        serving : Serves m v b₁ c sh (within (length l) b (takeBlocks n b c sh h))
-        unfolding Readies
-        serving = rw e at a
-
-        room : m ≤ length l
-        room =
-            let t = takeBlocks n b c sh h l in
-            let s = serving .is l in
-            by-cases (ltb (length l) (t .count))
-            (λ u. let z : within (length l) b (takeBlocks n b c sh h) l .code ≡ 5 = rw u in absurd (let y : _≡_ {A = ℕ} 5 0 = sym z ∙ ap (λ z. z .code) s in omega arith))
-            (λ u. let z : t .count ≡ m = (let y : within (length l) b (takeBlocks n b c sh h) l ≡ t = rw u in ap (λ z. z .count) (sym y ∙ s) ∙ sym (serving .count)) in omega (arith, ltb-false (length l) (t .count) u))
-
-        pub list-fills : FillPre b₁ c sh l m
-        list-fills = let s = serving in record { pages = s .pages; pre = s .pre; walks = s .walks; count = s .count; places = room }
-
-        pub list-took : (b′ l′ : List ℕ) (m₀ v₀ : ℕ) → Filling b′ l′ (fills b₁ c sh) l → TakesInto 0 b′ l′ m₀ m v₀ (boolByte v) (takeList w n b c (shapeOf c) h l)
-        list-took b′ l′ m₀ v₀ g =
-            let s = serving in
-            rw (list-is, s .is l) (into-took _ b′ l′ (Answer.Took m v) (rw (s .count, s .virgin) (record { answer = refl; book = g .book; list = g .list })) m m₀ v₀ v refl)
+      pub list-took : (m : ℕ) (v : Bool) (b′ l′ : List ℕ) (m₀ v₀ : ℕ) → r ≡ Fill m v → Filling b′ l′ (fills b₁ c sh) l → TakesInto 0 b′ l′ m₀ m v₀ (boolByte v) (takeList w n b c (shapeOf c) h l)
+      list-took m v b′ l′ m₀ v₀ e g =
+          let s = serving n b c h l sh r b₁ a m v e in
+          rw (list-is, s .is l) (into-took _ b′ l′ (Answer.Took m v) (rw (s .count, s .virgin) (record { answer = refl; book = g .book; list = g .list })) m m₀ v₀ v refl)
 
 pub whole-pre : (n : ℕ) (b : List ℕ) (c h : ℕ) → CallPre n b c → ListPre true n b c h
 whole-pre n b c h a = record { call = a; granted = λ z. absurd (false≢true (sym z)) }

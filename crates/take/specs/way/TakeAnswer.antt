@@ -58,7 +58,7 @@ Plans Nothing n b c sh = TakeNewPre n b c sh × ((h : ℕ) (l : List ℕ) → ta
 Plans (Fill m v) n b c sh = FirstPre b c × ((h : ℕ) → Serves m v (readied b c) c sh (takeBlocks n b c sh h))
 
 -- the take t on the book b, refused where its blocks are more than k
-abbrev pub within : ℕ → List ℕ → (List ℕ → Took) → List ℕ → Took
+unfoldable pub within : ℕ → List ℕ → (List ℕ → Took) → List ℕ → Took
 within k b t l = cond (ltb k (t l .count)) (tookNone b l 5) (t l)
 
 -- a class's take from number 5 on: of a list that need not be whole, room for the blocks is asked
