@@ -34,7 +34,7 @@ fn refill(meta: &mut [u32], n: u32, c: u32, host: u32, block: &mut u64) -> u32
     ensures { λ r. ⌜ BlockEnds (tookOn c (takeCall n (now (meta .entry)) c (shapeOf c) host blank)) r (now (meta .exit)) (now (block .entry)) (now (block .exit)) ⌝ }
 {
     let mut list = [0; 64];
-    match take::call::take_call(meta, n, c, host, &mut list) {
+    match take::call::take_call(meta, n, c, host, &mut list, true) {
         Take::Refused(k) => k,
         Take::Took(m, _) => {
             *block = bring(meta, n, c, &list, m);

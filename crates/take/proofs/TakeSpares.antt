@@ -1,13 +1,14 @@
--- A take that is refused leaves the book as it was, and counts no block; none counts more blocks than the lent list has places, nor than 64.
+-- A take that is refused leaves the book as it was, and counts no block; none counts more blocks than the class's batch. Its blocks are the same, whatever list is lent.
 use Prim.Native.Nat.{ℕ, suc, _-_, _≤_}
 use mathlib.Core.Bool.{Bool, true, false, cond, not}
-use mathlib.Core.List.{List}
+use mathlib.Core.List.{List, [], _++_}
 use mathlib.Core.Option as Option
 use mathlib.Core.Option.{Option, some}
 use mathlib.Core.Path.{_≡_, refl}
 use lib.Dec.{eqb, ltb}
 use native.Mathlib.Omega.{arith}
 use lib.ListN.{length, drop, length-append}
+use Rattle.facts.proofs.Bools.{by-cases}
 use Rattle.classes.specs.declared.Shape.{Shape}
 use Rattle.classes.specs.Shape.{shapeOf}
 use Rattle.classes.proofs.Shapes.{shape-sound}
@@ -26,51 +27,65 @@ pub record Spares (b : List ℕ) (t : Took) : Type 0 where
   pub within : t .count ≤ length (t .list)
   pub few : t .count ≤ 64
 
-none-taken : {b l : List ℕ} {k : ℕ} → Spares b (tookNone b l k)
-none-taken = record { book = λ z. refl; none = λ z. refl; within = omega arith; few = omega arith }
+-- whatever list is lent, the take gives the same blocks, up to m
+pub record Fixed (b : List ℕ) (m : ℕ) (t : List ℕ → Took) : Type 0 where
+  pub code : ℕ
+  pub filled : Filled
+  pub book : (code ≡ 0 → ⊥) → filled .book ≡ b
+  pub none : (code ≡ 0 → ⊥) → length (filled .blocks) ≡ 0
+  pub most : length (filled .blocks) ≤ m
+  pub is : (l : List ℕ) → t l ≡ record { code = code; book = filled .book; count = length (filled .blocks); list = filled .blocks ++ drop (length (filled .blocks)) l; virgin = filled .virgin }
 
-either : (b : List ℕ) (t : Bool) (x y : Took) → Spares b x → Spares b y → Spares b (cond t x y)
-either b true x y h g = h
-either b false x y h g = g
+none-taken : {b : List ℕ} {m k : ℕ} → Fixed b m (λ l. tookNone b l k)
+none-taken {b} {m} {k} = record { code = k; filled = record { book = b; blocks = []; virgin = false }; book = λ z. refl; none = λ z. refl; most = omega arith; is = λ l. refl }
 
-took-all : (b l : List ℕ) (f : Filled) → length (f .blocks) ≤ 64 → Spares b (took l f)
-took-all b l f h = record { book = λ z. absurd (z refl); none = λ z. absurd (z refl); within = omega (arith, length-append (f .blocks) (drop (length (f .blocks)) l)); few = h }
+either : (b : List ℕ) (m : ℕ) (t : Bool) (x y : List ℕ → Took) → Fixed b m x → Fixed b m y → Fixed b m (λ l. cond t (x l) (y l))
+either b m true x y h g = h
+either b m false x y h g = g
 
-module _ (n : ℕ) (b : List ℕ) (c : ℕ) (sh : Shape) (limited : sh .batch ≤ 64) (l : List ℕ) where
-  fill-spares : (d : List ℕ) → Spares b (filled d c sh l)
-  fill-spares d = took-all b l (fillFrom d c sh (sh .batch) (sh .batch)) (omega (arith, fill-most c sh (sh .batch) (sh .batch) d))
+took-all : (b : List ℕ) (m : ℕ) (f : Filled) → length (f .blocks) ≤ m → Fixed b m (λ l. took l f)
+took-all b m f h = record { code = 0; filled = f; book = λ z. absurd (z refl); none = λ z. absurd (z refl); most = h; is = λ l. refl }
 
-  partial-spares : Spares b (fromPartial n b c sh l)
+module _ (n : ℕ) (b : List ℕ) (c : ℕ) (sh : Shape) where
+  fill-fixed : (d : List ℕ) → Fixed b (sh .batch) (λ l. filled d c sh l)
+  fill-fixed d = took-all b (sh .batch) (fillFrom d c sh (sh .batch) (sh .batch)) (fill-most c sh (sh .batch) (sh .batch) d)
+
+  partial-fixed : Fixed b (sh .batch) (fromPartial n b c sh)
   unfolding fromPartial
-  partial-spares = either b (walk n b c sh (sh .batch) (sh .batch) (get b (class partial c)) 0) (filled b c sh l) (tookNone b l 13) (fill-spares b) none-taken
+  partial-fixed = either b (sh .batch) (walk n b c sh (sh .batch) (sh .batch) (get b (class partial c)) 0) (λ l. filled b c sh l) (λ l. tookNone b l 13) (fill-fixed b) none-taken
 
-  park-spares : (k : Park) → Spares b (fromPark n b c sh k l)
+  park-fixed : (k : Park) → Fixed b (sh .batch) (fromPark n b c sh k)
   unfolding fromPark
-  park-spares k =
+  park-fixed k =
       let d = unparkRun b c k (get b (class (top k) c) - 1) in
-      either b (parkValid n b c sh k) (filled d c sh l) (tookNone b l 13) (fill-spares d) none-taken
+      either b (sh .batch) (parkValid n b c sh k) (λ l. filled d c sh l) (λ l. tookNone b l 13) (fill-fixed d) none-taken
 
-  run-spares : (d : List ℕ) (r : Option ℕ) → Spares b (onRun d c sh l r)
+  run-fixed : (d : List ℕ) (r : Option ℕ) → Fixed b (sh .batch) (λ l. onRun d c sh l r)
   unfolding onRun
-  run-spares d Option.none = record { book = λ z. absurd (z refl); none = λ z. absurd (z refl); within = omega arith; few = omega arith }
-  run-spares d (some q) = fill-spares (link (newRun d sh q) c q)
+  run-fixed d Option.none = took-all b (sh .batch) (record { book = d; blocks = []; virgin = false }) (omega arith)
+  run-fixed d (some q) = fill-fixed (link (newRun d sh q) c q)
 
-  new-spares : (h : ℕ) → Spares b (takeNew n b c sh h l)
+  new-fixed : (h : ℕ) → Fixed b (sh .batch) (takeNew n b c sh h)
   unfolding takeNew
-  new-spares h =
+  new-fixed h =
       let g = commitFor n b h (sh .pages) (suc c) in
-      either b (eqb (g .code) 0) (onRun (g .book) c sh l (g .run)) (tookNone b l (g .code)) (run-spares (g .book) (g .run)) none-taken
+      either b (sh .batch) (eqb (g .code) 0) (λ l. onRun (g .book) c sh l (g .run)) (λ l. tookNone b l (g .code)) (run-fixed (g .book) (g .run)) none-taken
 
-  blocks-spares : (h : ℕ) → Spares b (takeBlocks n b c sh h l)
+  pub blocks-fixed : (h : ℕ) → Fixed b (sh .batch) (takeBlocks n b c sh h)
   unfolding takeBlocks
-  blocks-spares h =
-      either b (ltb n (get b (arena frontier))) (tookNone b l 13) _ none-taken
-      (either b (not (eqb (get b (class partial c)) 0)) (fromPartial n b c sh l) _ partial-spares
-      (either b (not (eqb (get b (class empty c)) 0)) (fromPark n b c sh Empty l) _ (park-spares Empty)
-      (either b (not (eqb (get b (class cold c)) 0)) (fromPark n b c sh Cold l) (takeNew n b c sh h l) (park-spares Cold) (new-spares h))))
+  blocks-fixed h =
+      either b (sh .batch) (ltb n (get b (arena frontier))) (λ l. tookNone b l 13) _ none-taken
+      (either b (sh .batch) (not (eqb (get b (class partial c)) 0)) (fromPartial n b c sh) _ partial-fixed
+      (either b (sh .batch) (not (eqb (get b (class empty c)) 0)) (fromPark n b c sh Empty) _ (park-fixed Empty)
+      (either b (sh .batch) (not (eqb (get b (class cold c)) 0)) (fromPark n b c sh Cold) (takeNew n b c sh h) (park-fixed Cold) (new-fixed h))))
+
+pub fixed-spares : (b : List ℕ) (m : ℕ) (t : List ℕ → Took) → m ≤ 64 → Fixed b m t → (l : List ℕ) → Spares b (t l)
+fixed-spares b m t h f l =
+    rw (f .is l) (record { book = f .book; none = f .none; within = omega (arith, length-append (f .filled .blocks) (drop (length (f .filled .blocks)) l)); few = omega (arith, f .most) })
 
 pub call-spares : (n : ℕ) (b : List ℕ) (c h : ℕ) (l : List ℕ) → Spares b (takeCall n b c (shapeOf c) h l)
 unfolding takeCall
 call-spares n b c h l =
-    let sh = shapeOf c in
-    either b (ltb (length l) (sh .batch)) (tookNone b l 5) (takeBlocks n b c sh h l) none-taken (blocks-spares n b c sh (shape-sound c .limited) l h)
+    by-cases (ltb (length l) (shapeOf c .batch))
+    (λ e. rw e (fixed-spares b 64 (λ l. tookNone b l 5) (omega arith) none-taken l))
+    (λ e. rw e (fixed-spares b (shapeOf c .batch) (takeBlocks n b c (shapeOf c) h) (shape-sound c .limited) (blocks-fixed n b c (shapeOf c) h) l))

@@ -2,15 +2,16 @@
 use Prim.Native.Nat.{ℕ, zero, suc, _+_, _-_, _≤_, _<_, min}
 use native.Mathlib.Omega.{arith}
 use native.Mathlib.Numerals.{add-one}
-use mathlib.Core.Bool.{Bool, true, false, cond}
+use mathlib.Core.Bool.{Bool, true, false, cond, _&&_, false≢true}
 use mathlib.Core.List.{List}
 use mathlib.Core.Option.{Option, none, some}
 use mathlib.Core.Path.{_≡_, refl, sym, ap, _∙_}
 use lib.Dec.{eqb, ltb, leb}
 use lib.ListN.{length}
-use borrow.Author.Tests.{lt-ltb, le-ltb, le-leb, eq-eqb, ne-eqb, eqb-true}
+use mir.Val.{boolByte}
+use borrow.Author.Tests.{lt-ltb, le-ltb, le-leb, ltb-true, ltb-false, eq-eqb, ne-eqb, eqb-true}
 use Rattle.facts.specs.Lists.{isSome}
-use Rattle.facts.proofs.Bools.{by-cases}
+use Rattle.facts.proofs.Bools.{by-cases, and-left, and-right}
 use Rattle.classes.specs.declared.Shape.{Shape}
 use Rattle.classes.specs.Shape.{shapeOf}
 use Rattle.classes.proofs.Shapes.{shape-sound}
@@ -35,10 +36,12 @@ use Rattle.take.specs.declared.call.Take as Taken
 use Rattle.take.specs.declared.call.Take.the-variants as Answer
 use Rattle.take.specs.declared.take_plan.Plan.{Plan}
 use Rattle.take.specs.declared.take_plan.Plan.the-variants.{Refused, Nothing, Fill}
-use Rattle.calls.specs.Take.{parkValid, Took, fromPartial, fromPark, onRun, takeNew, takeBlocks, takeCall}
-use Rattle.take.specs.way.TakePlan.{TakePre, TakeRunPre, TakeNewPre, SourcePre, BlocksPre, CallPre, walksFrom, fills, Foretold, ParkedPre, firstStore, unparked, readied, FirstPre, FillPre, Filling}
-use Rattle.take.specs.way.TakeAnswer.{Takes, Serves, Readies, Plans, Counts, onRunAt}
+use Rattle.calls.specs.Take.{parkValid, Took, tookNone, fromPartial, fromPark, onRun, takeNew, takeBlocks, takeCall}
+use Rattle.take.specs.way.TakePlan.{TakePre, TakeRunPre, TakeNewPre, SourcePre, CallPre, ListPre, Granted, walksFrom, fills, Foretold, ParkedPre, firstStore, unparked, readied, FirstPre, FillPre, Filling}
+use Rattle.take.specs.way.TakeAnswer.{TakesInto, Serves, Readies, Plans, within, takeList, Exceeds, onRunAt}
 use Rattle.take.specs.Answer.{answerOf}
+use Rattle.take.proofs.TakeSpares.{blocks-fixed}
+use Rattle.take.proofs.AnswerSteps.{into-refused, into-took}
 use Rattle.take.proofs.TakePages.{Valid}
 use Rattle.take.proofs.Fill.{fill-most, foreseen, fill-planned}
 use Rattle.take.proofs.TakeAlone.{link-changes, alone-walks, alone-planned}
@@ -49,6 +52,10 @@ use Rattle.take.proofs.TakeParked.{parked-unparks, unparked-pre, unpark
 -- another way to say the same take
 said : {f g : List ℕ → Took} → ((l : List ℕ) → f l ≡ g l) → f ≡ g
 said h = λ i. λ l. h l i
+
+within-is : (k : ℕ) (b : List ℕ) (t : List ℕ → Took) (l : List ℕ) → t l .count ≤ k → within k b t l ≡ t l
+unfolding within
+within-is k b t l h = ap (λ z. cond z (tookNone b l 5) (t l)) (le-ltb k (t l .count) h)
 
 -- ---- a run of the arena
 module _ (b : List ℕ) (c : ℕ) (sh : Shape) (q : ℕ) where
@@ -169,42 +176,82 @@ module _ (n : ℕ) (b : List ℕ) (c : ℕ) (sh : Shape) (h : ℕ) where
   numbered zero d = absurd (d refl)
   numbered (suc k) d = refl
 
-  module _ (r : Commit.Commit) (b₁ : List ℕ) (a : Answers r b₁ (commitFor n b h (sh .pages) (c + 1))) where
-    told : Answers r b₁ commits
-    told = rw add-one at a
+  -- a run that it answered is the class's only page
+  run-pre : TakeNewPre n b c sh → (q : ℕ) → commits .run ≡ some q → TakeRunPre (commits .book) c sh q
+  run-pre t q e =
+      let g = commit-granted n b (le-leb (words n) (length b) (t .pre .long)) (sh .pages) (suc c) h q e in
+      record {
+        pages = n;
+        pre = record { known = t .pre .known; shape = t .pre .shape; few = t .pre .few; long = rw (g .long) (t .pre .long); bound = g .bound };
+        alone = g .rows c (lt-ltb c 76 (t .pre .known)) ∙ t .alone;
+        ends = g .ends;
+        under = g .below;
+        owners = g .owners;
+      }
 
-    pub new-refused : (k : ℕ) → r ≡ Made.Refused k → Readies (Refused k) b₁ c sh (takeNew n b c sh h)
-    unfolding takeNew Readies
-    new-refused k e l =
-        let u = answer-refused (commits .code) (commits .run) (commits .fresh) k (sym (told .answer) ∙ e) in
-        let d : commits .code ≡ 0 → ⊥ = λ z. u .1 (sym (u .0) ∙ z) in
-        rw (ne-eqb (commits .code) 0 d, u .0) (record { answer = numbered k (u .1); book = told .book ∙ refused-keeps d; list = refl })
+  run-count : TakeNewPre n b c sh → hasRun commits ≡ true → (l : List ℕ) → takeNew n b c sh h l .count ≡ min (sh .batch) (sh .capacity)
+  unfolding takeNew
+  run-count t e l = rw (and-left (eqb (commits .code) 0) _ e) (go (commits .run) refl (and-right (eqb (commits .code) 0) _ e))
+    where
+      go : (o : Option ℕ) → commits .run ≡ o → isSome o ≡ true → onRun (commits .book) c sh l o .count ≡ min (sh .batch) (sh .capacity)
+      go none g w = absurd (false≢true w)
+      go (some q) g w = let s = run-serves (commits .book) c sh q (run-pre t q g) in ap (λ z. z .count) (s .is l) ∙ sym (s .count)
 
-    pub new-none : r ≡ Made.Nothing → Readies Nothing b₁ c sh (takeNew n b c sh h)
-    unfolding takeNew onRun Readies
-    new-none e l =
-        let u = answer-none (commits .code) (commits .run) (commits .fresh) (sym (told .answer) ∙ e) in
-        rw (u .0, u .1) (record { answer = refl; book = told .book; list = refl })
+  module _ (t : TakeNewPre n b c sh) (k : ℕ) (i : Granted k sh h) (x : Bool) (y : Exceeds x k n b sh) where
+    -- with less room than a run's blocks need all is granted
+    asked : k < min (sh .batch) (sh .capacity) → x ≡ hasRun commits
+    asked o = let g : h ≡ 15 = i (omega arith) in rw g (y (suc c) ∙ rw (lt-ltb k (min (sh .batch) (sh .capacity)) o))
 
-    module _ (q : ℕ) (f : Bool) (e : r ≡ Made.Run q f) where
-      granted : (commits .code ≡ 0) × (commits .run ≡ some q)
-      granted = answer-run (commits .code) (commits .run) (commits .fresh) q f (sym (told .answer) ∙ e)
+    pub new-full : x ≡ true → Readies (Refused 5) b c sh (within k b (takeNew n b c sh h))
+    unfolding Readies within
+    new-full e l =
+        let o : k < min (sh .batch) (sh .capacity) = ltb-true k _ (and-left (ltb k (min (sh .batch) (sh .capacity))) _ (sym (y (suc c)) ∙ e)) in
+        rw (run-count t (sym (asked o) ∙ e) l, lt-ltb k (min (sh .batch) (sh .capacity)) o) (record { answer = refl; book = refl; list = refl })
 
-      pub new-runs : TakeNewPre n b c sh → TakeRunPre b₁ c sh q
-      new-runs t =
-          let g = commit-granted n b (le-leb (words n) (length b) (t .pre .long)) (sh .pages) (suc c) h q (granted .1) in
-          rw (told .book) (record {
-            pages = n;
-            pre = record { known = t .pre .known; shape = t .pre .shape; few = t .pre .few; long = rw (g .long) (t .pre .long); bound = g .bound };
-            alone = g .rows c (lt-ltb c 76 (t .pre .known)) ∙ t .alone;
-            ends = g .ends;
-            under = g .below;
-            owners = g .owners;
-          })
+    module _ (e : x ≡ false) (r : Commit.Commit) (b₁ : List ℕ) (a : Answers r b₁ (commitFor n b h (sh .pages) (c + 1))) where
+      told : Answers r b₁ commits
+      told = rw add-one at a
 
-      pub new-ready : (s : Plan) (b₂ : List ℕ) → Readies s b₂ c sh (onRunAt b₁ c sh q) → Readies s b₂ c sh (takeNew n b c sh h)
-      unfolding takeNew
-      new-ready s b₂ t = let z : takeNew n b c sh h ≡ onRunAt b₁ c sh q = said (λ l. rw (granted .0, granted .1, told .book)) in rw z t
+      pub new-refused : (j : ℕ) → r ≡ Made.Refused j → Readies (Refused j) b₁ c sh (within k b (takeNew n b c sh h))
+      unfolding takeNew Readies within
+      new-refused j f l =
+          let u = answer-refused (commits .code) (commits .run) (commits .fresh) j (sym (told .answer) ∙ f) in
+          let d : commits .code ≡ 0 → ⊥ = λ z. u .1 (sym (u .0) ∙ z) in
+          rw (ne-eqb (commits .code) 0 d, u .0, le-ltb k 0 (omega arith)) (record { answer = numbered j (u .1); book = told .book ∙ refused-keeps d; list = refl })
+
+      pub new-none : r ≡ Made.Nothing → Readies Nothing b₁ c sh (within k b (takeNew n b c sh h))
+      unfolding takeNew onRun Readies within
+      new-none f l =
+          let u = answer-none (commits .code) (commits .run) (commits .fresh) (sym (told .answer) ∙ f) in
+          rw (u .0, u .1, le-ltb k 0 (omega arith)) (record { answer = refl; book = told .book; list = refl })
+
+      module _ (q : ℕ) (f : Bool) (z : r ≡ Made.Run q f) where
+        granted : (commits .code ≡ 0) × (commits .run ≡ some q)
+        granted = answer-run (commits .code) (commits .run) (commits .fresh) q f (sym (told .answer) ∙ z)
+
+        pub new-runs : TakeRunPre b₁ c sh q
+        new-runs = rw (told .book) (run-pre t q (granted .1))
+
+        has-run : hasRun commits ≡ true
+        has-run = rw (granted .0, granted .1)
+
+        fits : min (sh .batch) (sh .capacity) ≤ k
+        fits = by-cases (ltb k (min (sh .batch) (sh .capacity))) (λ w. absurd (false≢true (sym e ∙ asked (ltb-true k _ w) ∙ has-run))) (λ w. ltb-false k _ w)
+
+        is-run : (l : List ℕ) → takeNew n b c sh h l ≡ onRunAt b₁ c sh q l
+        unfolding takeNew
+        is-run l = rw (granted .0, granted .1, told .book)
+
+        pub new-ready : (s : Plan) (b₂ : List ℕ) → Readies s b₂ c sh (onRunAt b₁ c sh q) → Readies s b₂ c sh (within k b (takeNew n b c sh h))
+        new-ready s b₂ p =
+            let w : within k b (takeNew n b c sh h) ≡ onRunAt b₁ c sh q = said (λ l. within-is k b (takeNew n b c sh h) l (rw (run-count t has-run l) fits) ∙ is-run l) in
+            rw w p
+
+pub exceeds-not : (n : ℕ) (b : List ℕ) (sh : Shape) (k m : ℕ) → m ≡ min (sh .batch) (sh .capacity) → m ≤ k → Exceeds false k n b sh
+exceeds-not n b sh k m e o w = rw (le-ltb k (min (sh .batch) (sh .capacity)) (omega arith))
+
+pub exceeds-runs : (n : ℕ) (b : List ℕ) (sh : Shape) (k m : ℕ) → m ≡ min (sh .batch) (sh .capacity) → k < m → (r : Bool) → Finds r n b (sh .pages) → Exceeds r k n b sh
+exceeds-runs n b sh k m e o r f w = rw (lt-ltb k (min (sh .batch) (sh .capacity)) (omega arith)) (f w)
 
 -- ---- a parked page heads the partial list
 module _ (b : List ℕ) (c x : ℕ) (ex : x ≡ get b (class partial c)) where
@@ -299,107 +346,97 @@ store-cold b c y e z = rw (← e, eq-eqb y 0 z)
 
 -- ---- it is made ready
 module _ (n : ℕ) (b : List ℕ) (c : ℕ) (sh : Shape) (p : Plan) (a : Plans p n b c sh) where
-  pub made-refused : (h k : ℕ) → p ≡ Refused k → Readies (Refused k) b c sh (takeBlocks n b c sh h)
-  unfolding Plans Readies
-  made-refused h k e l = let q = rw e at a in rw (q .1 h l, q .0) (record { answer = refl; book = refl; list = refl })
+  pub made-refused : (h j k : ℕ) → p ≡ Refused k → Readies (Refused k) b c sh (within j b (takeBlocks n b c sh h))
+  unfolding Plans Readies within
+  made-refused h j k e l = let q = rw e at a in rw (q .1 h l, q .0, le-ltb j 0 (omega arith)) (record { answer = refl; book = refl; list = refl })
 
   pub made-pre : p ≡ Nothing → TakeNewPre n b c sh
   unfolding Plans
   made-pre e = let q = rw e at a in q .0
 
-  pub made-new : (h : ℕ) (s : Plan) (b₁ : List ℕ) → p ≡ Nothing → Readies s b₁ c sh (takeNew n b c sh h) → Readies s b₁ c sh (takeBlocks n b c sh h)
+  pub made-new : (h j : ℕ) (s : Plan) (b₁ : List ℕ) → p ≡ Nothing → Readies s b₁ c sh (within j b (takeNew n b c sh h)) → Readies s b₁ c sh (within j b (takeBlocks n b c sh h))
   unfolding Plans
-  made-new h s b₁ e t = let q = rw e at a in let z : takeBlocks n b c sh h ≡ takeNew n b c sh h = said (q .1 h) in rw z t
+  made-new h j s b₁ e t = let q = rw e at a in let z : takeBlocks n b c sh h ≡ takeNew n b c sh h = said (q .1 h) in rw z t
 
   module _ (m : ℕ) (v : Bool) (e : p ≡ Fill m v) where
+    serves : (h : ℕ) → Serves m v (readied b c) c sh (takeBlocks n b c sh h)
+    unfolding Plans
+    serves = let q = rw e at a in q .1
+
+    counts : (h : ℕ) (l : List ℕ) → takeBlocks n b c sh h l .count ≡ m
+    counts h l = ap (λ z. z .count) (serves h .is l) ∙ sym (serves h .count)
+
     pub made-first : FirstPre b c
     unfolding Plans
     made-first = let q = rw e at a in q .0
 
-    pub made-ready : (h : ℕ) (b₁ : List ℕ) → b₁ ≡ readied b c → Readies (Fill m v) b₁ c sh (takeBlocks n b c sh h)
-    unfolding Plans Readies
-    made-ready h b₁ e₁ = let q = rw e at a in rw e₁ (q .1 h)
+    pub made-full : (h j : ℕ) → j < m → Readies (Refused 5) b c sh (within j b (takeBlocks n b c sh h))
+    unfolding Readies within
+    made-full h j o l = rw (counts h l, lt-ltb j m o) (record { answer = refl; book = refl; list = refl })
 
--- ---- the class's shape
-pub shape-pre : (n : ℕ) (b : List ℕ) (c : ℕ) (sh : Shape) → sh ≡ shapeOf c → CallPre n b c → SourcePre n b c sh
-shape-pre n b c sh e a = record { known = a .known; shape = rw e (shape-sound c); few = a .few; long = a .long }
-
-pub shape-pages : (c : ℕ) (sh : Shape) → sh ≡ shapeOf c → sh .pages ≤ maxPages + 1
-shape-pages c sh e = omega (arith, shape-sound c .short, ap (λ z. z .pages) e)
-
--- ---- how many blocks it is, all being granted
-module _ (n : ℕ) (b : List ℕ) (c : ℕ) (sh : Shape) (i : sh ≡ shapeOf c) (p : Plan) (a : Plans p n b c sh) where
-  pub counts-none : (k : ℕ) → p ≡ Refused k → Counts 0 n b c (shapeOf c)
-  unfolding Plans
-  counts-none k e l = let q = rw e at a in rw (← i, q .1 15 l)
-
-  pub counts-some : (m : ℕ) (v : Bool) → p ≡ Fill m v → Counts m n b c (shapeOf c)
-  unfolding Plans
-  counts-some m v e l = let q = rw e at a in rw (← i, q .1 15 .is l) (q .1 15 .count)
-
-  module _ (e : p ≡ Nothing) where
-    plan : Plans Nothing n b c sh
-    plan = rw e at a
-
-    abbrev commits′ : Committed
-    commits′ = commitFor n b 15 (sh .pages) (suc c)
-
-    no-page : TakeNewPre n b c sh
-    unfolding Plans
-    no-page = plan .0
-
-    new-count : (l : List ℕ) → takeBlocks n b c sh 15 l .count ≡ cond (hasRun commits′) (min (sh .batch) (sh .capacity)) 0
-    unfolding Plans takeNew onRun
-    new-count l =
-        rw (plan .1 15 l)
-        (by-cases (eqb (commits′ .code) 0)
-        (λ w. rw w (go (commits′ .run) refl (eqb-true (commits′ .code) 0 w)))
-        (λ w. rw w))
-      where
-        go : (o : Option ℕ) → commits′ .run ≡ o → commits′ .code ≡ 0 → onRun (commits′ .book) c sh l (commits′ .run) .count ≡ cond (isSome (commits′ .run)) (min (sh .batch) (sh .capacity)) 0
-        go none g w = rw g
-        go (some q) g w =
-            let r = new-runs n b c sh 15 (Made.Run q (commits′ .fresh)) (commits′ .book) (rw add-one (record { answer = rw (w, g); book = refl })) q (commits′ .fresh) refl no-page in
-            let s = run-serves (commits′ .book) c sh q r in
-            rw g (ap (λ z. z .count) (s .is l) ∙ sym (s .count))
-
-    module _ (t : Bool) (j : Finds t n b (sh .pages)) where
-      pub counts-new : (k : ℕ) → t ≡ true → k ≡ min (sh .batch) (sh .capacity) → Counts k n b c (shapeOf c)
-      counts-new k w g l = rw (← i) (g ∙ sym (new-count l ∙ rw (← (j (suc c)), w)))
-
-      pub counts-off : t ≡ false → Counts 0 n b c (shapeOf c)
-      counts-off w l = rw (← i) (sym (new-count l ∙ rw (← (j (suc c)), w)))
-
--- ---- the fill
-module _ (n : ℕ) (b : List ℕ) (c : ℕ) (sh : Shape) (h : ℕ) (l : List ℕ) (r : Plan) (b₁ : List ℕ) (a : Readies r b₁ c sh (takeBlocks n b c sh h)) where
-  pub take-refused : (k : ℕ) → r ≡ Refused k → Takes (Answer.Refused k) b₁ l (takeBlocks n b c sh h l)
-  unfolding Readies
-  take-refused k e = let q = rw e at a in q l
-
-  pub take-none : r ≡ Nothing → Takes (Answer.Took 0 false) b₁ l (takeBlocks n b c sh h l)
-  unfolding Readies
-  take-none e = let q = rw e at a in q l
-
-  module _ (m : ℕ) (v : Bool) (e : r ≡ Fill m v) where
-    serves : Serves m v b₁ c sh (takeBlocks n b c sh h)
+    pub made-ready : (h j : ℕ) (b₁ : List ℕ) → m ≤ j → b₁ ≡ readied b c → Readies (Fill m v) b₁ c sh (within j b (takeBlocks n b c sh h))
     unfolding Readies
-    serves = rw e at a
-
-    pub take-fills : BlocksPre n b c sh l → FillPre b₁ c sh l m
-    take-fills k = let s = serves in record { pages = s .pages; pre = s .pre; walks = s .walks; count = s .count; places = omega (arith, fill-most c sh (sh .batch) (sh .batch) b₁, s .count, k .places) }
-
-    pub take-took : (b′ l′ : List ℕ) → Filling b′ l′ (fills b₁ c sh) l → Takes (Answer.Took m v) b′ l′ (takeBlocks n b c sh h l)
-    take-took b′ l′ g = let s = serves in rw (s .is l, s .count, s .virgin) (record { answer = refl; book = g .book; list = g .list })
+    made-ready h j b₁ o e₁ =
+        let s = serves h in
+        rw e₁ (record { pages = s .pages; pre = s .pre; walks = s .walks; count = s .count; virgin = s .virgin; is = λ l. within-is j b (takeBlocks n b c sh h) l (rw (counts h l) o) ∙ s .is l })
 
 -- ---- the call
-module _ (n : ℕ) (b : List ℕ) (c h : ℕ) (l : List ℕ) where
-  pub call-short : (sh : Shape) → sh ≡ shapeOf c → length l < sh .batch → Takes (Answer.Refused 5) b l (takeCall n b c (shapeOf c) h l)
-  unfolding takeCall
-  call-short sh e s = rw (← e, lt-ltb (length l) (sh .batch) s) (record { answer = refl; book = refl; list = refl })
+pub shape-pre : (w : Bool) (n : ℕ) (b : List ℕ) (c h : ℕ) (sh : Shape) → sh ≡ shapeOf c → ListPre w n b c h → SourcePre n b c sh
+shape-pre w n b c h sh e a = record { known = a .call .known; shape = rw e (shape-sound c); few = a .call .few; long = a .call .long }
 
-  pub call-pre : (sh : Shape) → CallPre n b c → sh ≡ shapeOf c → sh .batch ≤ length l → BlocksPre n b c sh l
-  call-pre sh a e s = record { source = shape-pre n b c sh e a; places = s }
+module _ (n : ℕ) (b : List ℕ) (c h : ℕ) (l : List ℕ) (sh : Shape) (r : Plan) (b₁ : List ℕ) (a : Readies r b₁ c sh (within (length l) b (takeBlocks n b c sh h))) (m : ℕ) (v : Bool) (e : r ≡ Fill m v) where
+  serving : Serves m v b₁ c sh (within (length l) b (takeBlocks n b c sh h))
+  unfolding Readies
+  serving = rw e at a
 
-  pub call-done : (sh : Shape) (r : Taken.Take) (b′ l′ : List ℕ) → sh ≡ shapeOf c → sh .batch ≤ length l → Takes r b′ l′ (takeBlocks n b c sh h l) → Takes r b′ l′ (takeCall n b c (shapeOf c) h l)
+  room : m ≤ length l
+  unfolding within
+  room =
+      let t = takeBlocks n b c sh h l in
+      let s = serving .is l in
+      by-cases (ltb (length l) (t .count))
+      (λ u. let z : within (length l) b (takeBlocks n b c sh h) l .code ≡ 5 = rw u in absurd (let y : _≡_ {A = ℕ} 5 0 = sym z ∙ ap (λ z. z .code) s in omega arith))
+      (λ u. let z : t .count ≡ m = (let y : within (length l) b (takeBlocks n b c sh h) l ≡ t = rw u in ap (λ z. z .count) (sym y ∙ s) ∙ sym (serving .count)) in omega (arith, ltb-false (length l) (t .count) u))
+
+  pub list-fills : FillPre b₁ c sh l m
+  list-fills = let s = serving in record { pages = s .pages; pre = s .pre; walks = s .walks; count = s .count; places = room }
+
+module _ (w : Bool) (n : ℕ) (b : List ℕ) (c h : ℕ) (l : List ℕ) (sh : Shape) (i : sh ≡ shapeOf c) where
+  pub list-short : (w && ltb (length l) (sh .batch)) ≡ true → (m v : ℕ) → TakesInto 5 b l m m v v (takeList w n b c (shapeOf c) h l)
   unfolding takeCall
-  call-done sh r b′ l′ e s t = rw (← e, le-ltb (length l) (sh .batch) s) t
+  list-short o m v =
+      rw (← i, and-left w _ o, and-right w _ o) (record { code = refl; book = refl; list = refl; count = refl; virgin = refl })
+
+  module _ (o : (w && ltb (length l) (sh .batch)) ≡ false) where
+    pub list-granted : ListPre w n b c h → Granted (length l) sh h
+    list-granted a s = a .granted (by-cases w (λ u. absurd (false≢true (sym o ∙ rw (u, lt-ltb (length l) (sh .batch) s)))) (λ u. u))
+
+    list-is : takeList w n b c (shapeOf c) h l ≡ within (length l) b (takeBlocks n b c sh h) l
+    unfolding takeCall within
+    list-is =
+        by-cases w
+        (λ u.
+        let long : ltb (length l) (sh .batch) ≡ false = rw u at o in
+        let f = blocks-fixed n b c sh h in
+        rw (← i, u, long, f .is l, le-ltb (length l) (length (f .filled .blocks)) (omega (arith, f .most, ltb-false (length l) (sh .batch) long))))
+        (λ u. rw (← i, u))
+
+    module _ (r : Plan) (b₁ : List ℕ) (a : Readies r b₁ c sh (within (length l) b (takeBlocks n b c sh h))) where
+      pub list-refused : (k m v : ℕ) → r ≡ Refused k → TakesInto k b₁ l m m v v (takeList w n b c (shapeOf c) h l)
+      unfolding Readies
+      list-refused k m v e = let q = rw e at a in rw list-is (into-refused _ b₁ l (Answer.Refused k) (q l) k m v refl)
+
+      pub list-none : (m v : ℕ) → r ≡ Nothing → TakesInto 0 b₁ l m 0 v 0 (takeList w n b c (shapeOf c) h l)
+      unfolding Readies
+      list-none m v e = let q = rw e at a in rw list-is (into-took _ b₁ l (Answer.Took 0 false) (q l) 0 m v false refl)
+
+      pub list-took : (m : ℕ) (v : Bool) (b′ l′ : List ℕ) (m₀ v₀ : ℕ) → r ≡ Fill m v → Filling b′ l′ (fills b₁ c sh) l → TakesInto 0 b′ l′ m₀ m v₀ (boolByte v) (takeList w n b c (shapeOf c) h l)
+      list-took m v b′ l′ m₀ v₀ e g =
+          let s = serving n b c h l sh r b₁ a m v e in
+          rw (list-is, s .is l) (into-took _ b′ l′ (Answer.Took m v) (rw (s .count, s .virgin) (record { answer = refl; book = g .book; list = g .list })) m m₀ v₀ v refl)
+
+pub whole-pre : (n : ℕ) (b : List ℕ) (c h : ℕ) → CallPre n b c → ListPre true n b c h
+whole-pre n b c h a = record { call = a; granted = λ z. absurd (false≢true (sym z)) }
+
+pub part-pre : (n : ℕ) (b : List ℕ) (c h : ℕ) → CallPre n b c → h ≡ 15 → ListPre false n b c h
+part-pre n b c h a e = record { call = a; granted = λ z. e }

@@ -1,9 +1,12 @@
 // Takes of blocks, small and medium, from number 5 on: the first source that has a page is made ready, then the list is filled.
 ghost use mathlib.Core.Path.{_≡_};
+ghost use Prim.Native.Nat.{_+_, _≤_};
+ghost use Rattle.words.specs.Limits.{maxPages};
+ghost use Rattle.runs.specs.way.Pre.{BookIn};
 ghost use Rattle.classes.specs.Shape.{shapeOf};
 ghost use Rattle.calls.specs.Take.{takeNew, takeBlocks, takeCall};
-ghost use Rattle.take.specs.way.TakePlan.{readied, FirstPre, TakeRunPre, TakeNewPre, SourcePre, BlocksPre, CallPre};
-ghost use Rattle.take.specs.way.TakeAnswer.{Takes, TakesInto, Readies, Counts, onRunAt};
+ghost use Rattle.take.specs.way.TakePlan.{readied, FirstPre, TakeRunPre, TakeNewPre, SourcePre, CallPre, ListPre, Granted};
+ghost use Rattle.take.specs.way.TakeAnswer.{Takes, TakesInto, Readies, Exceeds, within, takeList, onRunAt};
 use crate::take_fill::fill_from_list;
 use crate::take_plan::Plan;
 use crate::take_plan::first_store;
@@ -27,11 +30,26 @@ fn ready_run(meta: &mut [u32], c: u32, shape: Shape, q: u32) -> Plan
     Plan::Fill(lists::min(shape.batch, shape.capacity), true)
 }
 
-// A new run from the arena; none is a take of no block.
-fn ready_new(meta: &mut [u32], n: u32, c: u32, shape: Shape, host: u32) -> Plan
-    requires { ⌜ TakeNewPre n (now meta) c shape ⌝ }
-    ensures { λ r. ⌜ Readies r (now (meta .exit)) c shape (takeNew n (now (meta .entry)) c shape host) ⌝ }
+// All being granted a new run is answered, and its blocks are more than there is room for.
+fn exceeds(meta: &[u32], n: u32, shape: Shape, room: usize) -> bool
+    requires { ⌜ BookIn (now meta) n × (shape .pages ≤ maxPages + 1) ⌝ }
+    ensures { λ r. ⌜ Exceeds r room n (now (meta .entry)) shape ⌝ }
 {
+    if lists::min(shape.batch, shape.capacity) as usize <= room {
+        return false;
+    }
+    runs::would_commit(meta, n, shape.pages)
+}
+
+// A new run from the arena; none is a take of no block.
+fn ready_new(meta: &mut [u32], n: u32, c: u32, shape: Shape, host: u32, room: usize) -> Plan
+    requires { ⌜ TakeNewPre n (now meta) c shape ⌝ }
+    requires { ⌜ Granted room shape host ⌝ }
+    ensures { λ r. ⌜ Readies r (now (meta .exit)) c shape (within room (now (meta .entry)) (takeNew n (now (meta .entry)) c shape host)) ⌝ }
+{
+    if exceeds(meta, n, shape, room) {
+        return Plan::Refused(5);
+    }
     let commit = runs::commit_for(meta, n, host, shape.pages, c + 1);
     match commit {
         Commit::Refused(k) => Plan::Refused(k),
@@ -52,50 +70,60 @@ fn unpark_first(meta: &mut [u32], c: u32)
     }
 }
 
-// The page of the source that the plan chose heads the partial list.
-fn make_ready(meta: &mut [u32], n: u32, c: u32, shape: Shape, host: u32) -> Plan
+// The page of the source that the plan chose heads the partial list, if there is room for the blocks.
+fn make_ready(meta: &mut [u32], n: u32, c: u32, shape: Shape, host: u32, room: usize) -> Plan
     requires { ⌜ SourcePre n (now meta) c shape ⌝ }
-    ensures { λ r. ⌜ Readies r (now (meta .exit)) c shape (takeBlocks n (now (meta .entry)) c shape host) ⌝ }
+    requires { ⌜ Granted room shape host ⌝ }
+    ensures { λ r. ⌜ Readies r (now (meta .exit)) c shape (within room (now (meta .entry)) (takeBlocks n (now (meta .entry)) c shape host)) ⌝ }
 {
     match plan_take(meta, n, c, shape) {
         Plan::Refused(k) => Plan::Refused(k),
-        Plan::Nothing => ready_new(meta, n, c, shape, host),
+        Plan::Nothing => ready_new(meta, n, c, shape, host, room),
         Plan::Fill(m, v) => {
+            if room < m as usize {
+                return Plan::Refused(5);
+            }
             unpark_first(meta, c);
             Plan::Fill(m, v)
         }
     }
 }
 
-// From the first source that has a page.
-fn take_blocks(meta: &mut [u32], n: u32, c: u32, shape: Shape, host: u32, list: &mut [u64]) -> Take
-    requires { ⌜ BlocksPre n (now meta) c shape (now list) ⌝ }
-    ensures { λ r. ⌜ Takes r (now (meta .exit)) (now (list .exit)) (takeBlocks n (now (meta .entry)) c shape host (now (list .entry))) ⌝ }
+// A class's take from number 5 on, on the book of an arena of n pages. A list that need not be whole, a trace's, has room for the blocks or is refused. The
+// answer goes through out-parameters, as the exported takes have it: an enum would go through memory (docs/BACKEND.md).
+fn take_list(
+    meta: &mut [u32],
+    n: u32,
+    c: u32,
+    host: u32,
+    list: &mut [u64],
+    whole: bool,
+    count: &mut u32,
+    virgin: &mut u32,
+) -> u32
+    requires { ⌜ ListPre whole n (now meta) c host ⌝ }
+    ensures { λ r. ⌜ TakesInto r (now (meta .exit)) (now (list .exit)) (now (count .entry)) (now (count .exit)) (now (virgin .entry)) (now (virgin .exit)) (takeList whole n (now (meta .entry)) c (shapeOf c) host (now (list .entry))) ⌝ }
 {
-    let found = make_ready(meta, n, c, shape, host);
-    match found {
-        Plan::Refused(k) => Take::Refused(k),
-        Plan::Nothing => Take::Took(0, false),
+    let shape = classes::shape_of(c);
+    if whole & (list.len() < shape.batch as usize) {
+        return 5;
+    }
+    match make_ready(meta, n, c, shape, host, list.len()) {
+        Plan::Refused(k) => k,
+        Plan::Nothing => {
+            *count = 0;
+            *virgin = 0;
+            0
+        }
         Plan::Fill(m, v) => {
             fill_from_list(meta, c, shape, list, m);
-            Take::Took(m, v)
+            *count = m;
+            *virgin = v as u32;
+            0
         }
     }
 }
 
-// A class's take from number 5 on, on the book of an arena of n pages.
-fn take_sized(meta: &mut [u32], n: u32, c: u32, host: u32, list: &mut [u64]) -> Take
-    requires { ⌜ CallPre n (now meta) c ⌝ }
-    ensures { λ r. ⌜ Takes r (now (meta .exit)) (now (list .exit)) (takeCall n (now (meta .entry)) c (shapeOf c) host (now (list .entry))) ⌝ }
-{
-    let shape = classes::shape_of(c);
-    if list.len() < shape.batch as usize {
-        return Take::Refused(5);
-    }
-    take_blocks(meta, n, c, shape, host, list)
-}
-
-// The same through the out-parameters that the exported takes have: an enum would go through memory (docs/BACKEND.md).
 pub fn take_into(
     meta: &mut [u32],
     n: u32,
@@ -108,44 +136,19 @@ pub fn take_into(
     requires { ⌜ CallPre n (now meta) c ⌝ }
     ensures { λ r. ⌜ TakesInto r (now (meta .exit)) (now (list .exit)) (now (count .entry)) (now (count .exit)) (now (virgin .entry)) (now (virgin .exit)) (takeCall n (now (meta .entry)) c (shapeOf c) host (now (list .entry))) ⌝ }
 {
-    match take_sized(meta, n, c, host, list) {
-        Take::Refused(k) => k,
-        Take::Took(m, v) => {
-            *count = m;
-            *virgin = v as u32;
-            0
-        }
-    }
+    take_list(meta, n, c, host, list, true, count, virgin)
 }
 
-// And as one value.
-pub fn take_call(meta: &mut [u32], n: u32, c: u32, host: u32, list: &mut [u64]) -> Take
-    requires { ⌜ CallPre n (now meta) c ⌝ }
-    ensures { λ r. ⌜ Takes r (now (meta .exit)) (now (list .exit)) (takeCall n (now (meta .entry)) c (shapeOf c) host (now (list .entry))) ⌝ }
+// The answer as one value.
+pub fn take_call(meta: &mut [u32], n: u32, c: u32, host: u32, list: &mut [u64], whole: bool) -> Take
+    requires { ⌜ ListPre whole n (now meta) c host ⌝ }
+    ensures { λ r. ⌜ Takes r (now (meta .exit)) (now (list .exit)) (takeList whole n (now (meta .entry)) c (shapeOf c) host (now (list .entry))) ⌝ }
 {
     let mut count = 0;
     let mut virgin = 0;
-    let code = take_into(meta, n, c, host, list, &mut count, &mut virgin);
+    let code = take_list(meta, n, c, host, list, whole, &mut count, &mut virgin);
     if code != 0 {
         return Take::Refused(code);
     }
     Take::Took(count, virgin == 1)
-}
-
-// How many blocks a take would answer, all being granted: the plan's. Nothing is written.
-pub fn take_count(meta: &[u32], n: u32, c: u32) -> u32
-    requires { ⌜ CallPre n (now meta) c ⌝ }
-    ensures { λ r. ⌜ Counts r n (now (meta .entry)) c (shapeOf c) ⌝ }
-{
-    let shape = classes::shape_of(c);
-    match plan_take(meta, n, c, shape) {
-        Plan::Refused(_) => 0,
-        Plan::Nothing => {
-            if runs::would_commit(meta, n, shape.pages) {
-                return lists::min(shape.batch, shape.capacity);
-            }
-            0
-        }
-        Plan::Fill(m, _) => m,
-    }
 }

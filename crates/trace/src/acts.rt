@@ -1,14 +1,12 @@
 // The calls that a trace's words stand for.
 ghost use mathlib.Core.Path.{_≡_};
-ghost use lib.Dec.{leb};
 ghost use Rattle.words.specs.Host.{hostMax};
 ghost use Rattle.take.specs.way.TakePlan.{CallPre};
 ghost use Rattle.release.specs.way.Act.{Answered};
 ghost use Rattle.trace.specs.Words.{ownerAt, classAt, takeNow, backNow};
-ghost use Rattle.trace.specs.way.Pre.{BookPre, TakesAt};
-ghost use Prim.Native.Nat.{_+_, _≤_};
+ghost use Rattle.trace.specs.way.Pre.{BookPre, TakesAt, fitted};
+ghost use Prim.Native.Nat.{_≤_};
 ghost use lib.ListN.{length};
-use crate::lists::paste;
 use release::Released;
 use take::call::Take;
 use words::Host;
@@ -64,29 +62,11 @@ pub fn back_now(meta: &mut [u32], n: u32, w: u64) -> Released
     release::release_list(meta, n, k - 1, all_granted(), &list)
 }
 
-// Is there room for the blocks of a take: for 64 there always is; else they are counted first.
-pub fn has_room(meta: &[u32], n: u32, c: u32, room: usize) -> bool
-    requires { ⌜ CallPre n (now meta) c ⌝ }
-    ensures { λ r. ⌜ r ≡ leb (takeNow n (now (meta .entry)) c .count) room ⌝ }
-{
-    if 64 <= room {
-        return true;
-    }
-    take::call::take_count(meta, n, c) as usize <= room
-}
-
-// A take whose blocks come to the list from place `at` on.
+// A take whose blocks come to the list from place `at` on, if there is room for them.
 pub fn take_now(meta: &mut [u32], n: u32, c: u32, blocks: &mut [u64], at: usize) -> Take
     requires { ⌜ CallPre n (now meta) c ⌝ }
-    requires { ⌜ at + takeNow n (now meta) c .count ≤ length (now blocks) ⌝ }
-    ensures { λ r. ⌜ TakesAt r (now (meta .exit)) (now (blocks .exit)) (takeNow n (now (meta .entry)) c) (now (blocks .entry)) at ⌝ }
+    requires { ⌜ at ≤ length (now blocks) ⌝ }
+    ensures { λ r. ⌜ TakesAt r (now (meta .exit)) (now (blocks .exit)) (fitted (takeNow n (now (meta .entry)) c) (now (meta .entry)) (now (blocks .entry)) at) (now (blocks .entry)) at ⌝ }
 {
-    let mut list = [0; 64];
-    match take::call::take_call(meta, n, c, all_granted(), &mut list) {
-        Take::Refused(k) => Take::Refused(k),
-        Take::Took(m, v) => {
-            paste(blocks, at, &list, m as usize);
-            Take::Took(m, v)
-        }
-    }
+    take::call::take_call(meta, n, c, all_granted(), &mut blocks[at..], false)
 }

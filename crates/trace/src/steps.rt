@@ -7,12 +7,10 @@ ghost use Prim.Native.Nat.{_+_, _-_, _*_, _^_, _<_, _≤_};
 ghost use Rattle.trace.specs.Trace as Trace;
 ghost use Rattle.trace.specs.Trace.{max, sayOf};
 ghost use Rattle.trace.specs.Words.{sizeOf};
-ghost use Rattle.trace.specs.way.Pre.{BookPre, MorePre, mayTake};
-ghost use Rattle.take.specs.way.TakePlan.{CallPre};
+ghost use Rattle.trace.specs.way.Pre.{BookPre, MorePre};
 ghost use Rattle.trace.specs.way.Steps.{lent, BlocksPre, TallyPre, Carried, CarriedBlocks, CarriedReport};
 use crate::acts::back_now;
 use crate::acts::class_at;
-use crate::acts::has_room;
 use crate::acts::take_now;
 use crate::lists::flip_kind;
 use crate::lists::is_block;
@@ -107,25 +105,13 @@ pub fn back_word(meta: &mut [u32], n: u32, blocks: &mut [u64], t: Tally, p: usiz
     }
 }
 
-// Few bytes are out, and a list of so many places has room for the blocks of a take.
-fn may_take(meta: &[u32], n: u32, c: u32, t: Tally, places: usize) -> bool
-    requires { ⌜ CallPre n (now meta) c ⌝ }
-    requires { ⌜ t .at ≤ places ⌝ }
-    ensures { λ r. ⌜ r ≡ mayTake n (now (meta .entry)) c t places ⌝ }
-{
-    if BYTES_MAX < t.bytes {
-        return false;
-    }
-    has_room(meta, n, c, places - t.at)
-}
-
 // "take from the class in the low 30 bits": its blocks come to the list behind those before them, if there is room for them.
 pub fn take_word(meta: &mut [u32], n: u32, blocks: &mut [u64], t: Tally, c: u32) -> Step
     requires { ⌜ BlocksPre n (now meta) (now blocks) t ⌝ }
     requires { ⌜ c < 76 ⌝ }
     ensures { λ r. ⌜ CarriedBlocks r n (Trace.take c) (now (meta .entry)) (now (blocks .entry)) t (now (meta .exit)) (now (blocks .exit)) ⌝ }
 {
-    if !may_take(meta, n, c, t, blocks.len()) {
+    if BYTES_MAX < t.bytes {
         return Step::Stops;
     }
     match take_now(meta, n, c, blocks, t.at) {

@@ -2,13 +2,13 @@
 --     Takes, TakesInto    it is done; through out-parameters
 --     Plans               what it will do is planned, and nothing is written
 --     Readies             its source is at hand: the fill is left
---     Counts              its count is told
-use Prim.Native.Nat.{ℕ}
-use mathlib.Core.Bool.{Bool, true, false, cond}
+--     within, takeList    it is refused where its blocks have no room
+use Prim.Native.Nat.{ℕ, min}
+use mathlib.Core.Bool.{Bool, true, false, cond, _&&_}
 use mathlib.Core.List.{List}
 use mathlib.Core.Option.{some}
 use mathlib.Core.Path.{_≡_}
-use lib.Dec.{eqb}
+use lib.Dec.{eqb, ltb}
 use lib.ListN.{length}
 use Rattle.words.specs.Host.{hostMax, digit}
 use Rattle.classes.specs.declared.Shape.{Shape}
@@ -16,7 +16,9 @@ use Rattle.take.specs.declared.call.Take.{Take}
 use Rattle.take.specs.declared.call.Take.the-variants as Answer
 use Rattle.take.specs.declared.take_plan.Plan.{Plan}
 use Rattle.take.specs.declared.take_plan.Plan.the-variants.{Refused, Nothing, Fill}
-use Rattle.calls.specs.Take.{Took, tookNone, filled, onRun, takeNew, takeBlocks}
+use Rattle.arena.specs.Calls.{commitFor}
+use Rattle.runs.specs.way.Found.{hasRun}
+use Rattle.calls.specs.Take.{Took, tookNone, filled, onRun, takeNew, takeBlocks, takeCall}
 use Rattle.take.specs.Answer.{answerOf}
 use Rattle.take.specs.way.TakePlan.{TakePre, walksFrom, fills, readied, FirstPre, TakeNewPre}
 
@@ -55,9 +57,17 @@ Plans (Refused k) n b c sh = (k ≡ 13) × ((h : ℕ) (l : List ℕ) → takeBlo
 Plans Nothing n b c sh = TakeNewPre n b c sh × ((h : ℕ) (l : List ℕ) → takeBlocks n b c sh h l ≡ takeNew n b c sh h l)
 Plans (Fill m v) n b c sh = FirstPre b c × ((h : ℕ) → Serves m v (readied b c) c sh (takeBlocks n b c sh h))
 
--- how many blocks it answers, all being granted
-abbrev pub Counts : ℕ → ℕ → List ℕ → ℕ → Shape → Type 0
-Counts r n b c sh = (l : List ℕ) → r ≡ takeBlocks n b c sh hostMax l .count
+-- the take t on the book b, refused where its blocks are more than k
+unfoldable pub within : ℕ → List ℕ → (List ℕ → Took) → List ℕ → Took
+within k b t l = cond (ltb k (t l .count)) (tookNone b l 5) (t l)
+
+-- a class's take from number 5 on: of a list that need not be whole, room for the blocks is asked
+abbrev pub takeList : Bool → ℕ → List ℕ → ℕ → Shape → ℕ → List ℕ → Took
+takeList w n b c sh h l = cond w (takeCall n b c sh h l) (within (length l) b (takeBlocks n b c sh h) l)
+
+-- all being granted a new run is answered, whoever asks, and its blocks are more than k
+abbrev pub Exceeds : Bool → ℕ → ℕ → List ℕ → Shape → Type 0
+Exceeds r k n b sh = (w : ℕ) → r ≡ (ltb k (min (sh .batch) (sh .capacity)) && hasRun (commitFor n b hostMax (sh .pages) w))
 
 abbrev pub onRunAt : List ℕ → ℕ → Shape → ℕ → List ℕ → Took
 onRunAt b c sh q l = onRun b c sh l (some q)

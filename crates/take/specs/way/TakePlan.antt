@@ -3,11 +3,12 @@
 --     share        the blocks that the walk finds on the page with a code, 0 where a test fails
 --     Foretold     the plan of one source: a refusal where a test fails, else what the fill will yield
 use Prim.Native.Nat.{ℕ, suc, _+_, _-_, _<_, _≤_}
-use mathlib.Core.Bool.{Bool, true, cond, _&&_}
+use mathlib.Core.Bool.{Bool, true, false, cond, _&&_}
 use mathlib.Core.List.{List, _++_, map}
 use mathlib.Core.Path.{_≡_}
 use lib.Dec.{eqb, leb}
 use lib.ListN.{length, drop}
+use Rattle.words.specs.Host.{hostMax}
 use Rattle.classes.specs.declared.Shape.{Shape}
 use Rattle.classes.specs.way.Sound.{Sound}
 use Rattle.fields.specs.Field.{arena, class, page, frontier, partial, empty, owner, free, carved, next, prev, words, get}
@@ -97,14 +98,18 @@ pub record SourcePre (n : ℕ) (b : List ℕ) (c : ℕ) (sh : Shape) : Type 0 wh
   pub few : n ≤ maxPages
   pub long : words n ≤ length b
 
-pub record BlocksPre (n : ℕ) (b : List ℕ) (c : ℕ) (sh : Shape) (l : List ℕ) : Type 0 where
-  pub source : SourcePre n b c sh
-  pub places : sh .batch ≤ length l
-
 pub record CallPre (n : ℕ) (b : List ℕ) (c : ℕ) : Type 0 where
   pub known : c < 76
   pub few : n ≤ maxPages
   pub long : words n ≤ length b
+
+-- a list that need not be whole is for calls that are granted all: then it is known what the arena answers
+pub record ListPre (w : Bool) (n : ℕ) (b : List ℕ) (c h : ℕ) : Type 0 where
+  pub call : CallPre n b c
+  pub granted : w ≡ false → h ≡ hostMax
+
+abbrev pub Granted : ℕ → Shape → ℕ → Type 0
+Granted k sh h = k < sh .batch → h ≡ hostMax
 
 -- ---- the fill: one turn takes up to m blocks of the head page, to the places below `at`
 pub record TurnPre (b : List ℕ) (c : ℕ) (sh : Shape) (l : List ℕ) (at m : ℕ) : Type 0 where

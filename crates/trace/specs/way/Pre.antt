@@ -4,16 +4,16 @@ use mathlib.Core.List.{List, _++_, map}
 use lib.ListN as ListN
 use lib.ListN.{length, drop}
 use lib.Seq.{paste}
-use lib.Dec.{leb}
-use mathlib.Core.Bool.{Bool, _&&_}
+use lib.Dec.{ltb}
+use mathlib.Core.Bool.{cond}
 use mathlib.Core.Path.{_≡_}
 use Rattle.fields.specs.Field.{words}
 use Rattle.fields.specs.Ranges.{maxPages}
-use Rattle.calls.specs.Take.{Took}
+use Rattle.calls.specs.Take.{Took, tookNone}
 use Rattle.take.specs.declared.call.Take.{Take}
 use Rattle.take.specs.Answer.{answerOf}
 use Rattle.trace.specs.declared.steps.Tally.{Tally}
-use Rattle.trace.specs.Words.{takeNow, restoreKind, bytesMax}
+use Rattle.trace.specs.Words.{restoreKind}
 
 pub record BookPre (n : ℕ) (b : List ℕ) : Type 0 where
   pub few : n ≤ maxPages
@@ -29,9 +29,9 @@ pub record MorePre (t : Tally) (m size : ℕ) : Type 0 where
   pub out : t .out + m < 2 ^ 64
   pub bytes : t .bytes + m * size < 2 ^ 64
 
--- few bytes are out, and a list of k places has room for the blocks of a take
-unfoldable pub mayTake : ℕ → List ℕ → ℕ → Tally → ℕ → Bool
-mayTake n b c t k = leb (t .bytes) bytesMax && leb (t .at + takeNow n b c .count) k
+-- the take t on the book b, refused where the list bl has no room for its blocks from place i on
+unfoldable pub fitted : Took → List ℕ → List ℕ → ℕ → Took
+fitted t b bl i = cond (ltb (length bl) (i + t .count)) (tookNone b (t .list) 5) t
 
 -- a take answered r, left the book b, and put its blocks into the list, from place i on
 pub record TakesAt (r : Take) (b bl : List ℕ) (t : Took) (bl₀ : List ℕ) (i : ℕ) : Type 0 where

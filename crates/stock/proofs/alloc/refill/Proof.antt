@@ -1,4 +1,5 @@
 use Rattle.stock.proofs.AllocSteps.{took-pre, refill-refused, refill-took}
+use Rattle.take.proofs.TakeSteps.{whole-pre}
 use borrow.Author.Needs.{needs}
 use Rattle.stock.proofs.alloc.refill.Statement.{statement}
 use Rattle.stock.proofs.alloc.refill.Tie as tie
@@ -7,7 +8,7 @@ slice-aggregate-take-call : tie.Need-slice-aggregate-take-call
 slice-aggregate-take-call c = search needs
 
 take-call-requires : tie.Need-take-call-requires
-take-call-requires c κs = search needs
+take-call-requires c κs = search whole-pre
 
 enum-known-k : tie.Need-enum-known-k
 enum-known-k c = search needs
