@@ -27,7 +27,7 @@ use Rattle.calls.specs.Chunks.{chunksMatch, chunksValid}
 use Rattle.release.specs.way.Marks.{freshCount, freshBook, noMarks, countBy, bookBy}
 use Rattle.release.specs.way.MarkPre.{FieldPre, MarkedIn}
 use Rattle.release.proofs.Bits.{isBit}
-use Rattle.release.proofs.RunLaws.{within-arena}
+use Rattle.pages.proofs.Runs.{whole-says}
 use Rattle.release.proofs.OutLaws.{run-of-out}
 use Rattle.release.proofs.MarkLaws.{mark-bits}
 use Rattle.release.proofs.RunMarks.{fresh-changes, AllFresh, all-fresh, not-marked, not-repeated}
@@ -58,7 +58,7 @@ module _ (n : ℕ) (b : List ℕ) (c : ℕ) (sh : Shape) (m g q : ℕ) (e : q �
   module _ (h : t ≡ true) where
     pub marks-there : CleanPre n b c sh m → ClearPre b q m
     marks-there a =
-        let z = within-arena n c sh (a .class .sound) q b (sym k ∙ h) in
+        let z = whole-says n b sh c q (sym k ∙ h) .inside in
         record { few = omega (arith, a .few); there = omega (arith, a .class .sound .paged, a .class .long) }
 
     pub clean-told : (r : Bool) → r ≡ noMarks b q m → r ≡ pageClean n b c sh m g

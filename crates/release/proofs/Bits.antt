@@ -1,20 +1,18 @@
 -- What a change of out bits and marks keeps, and what a block's bit tells of its word.
---     start-kept, whole-kept, in-run-kept    a word's run, on a book whose out bits and marks may differ
-use Prim.Native.Nat.{ℕ, _+_, _-_, _*_, _≤_, _<_}
+--     start-kept, bits-own, in-run-kept    a word's run, on a book whose out bits and marks may differ
+use Prim.Native.Nat.{ℕ, _-_, _*_, _≤_, _<_}
 use native.Mathlib.Omega.{arith}
 use mathlib.Core.Bool.{Bool, true, _&&_, _||_}
 use mathlib.Core.List.{List}
 use mathlib.Core.Path.{_≡_, refl, ap}
 use lib.Dec.{eqb, leb}
 use borrow.Author.Tests.{leb-true, ltb-true, eqb-true, lt-ltb}
-use Rattle.facts.specs.Lists.{below}
 use Rattle.facts.proofs.Bools.{and-left, and-right}
-use Rattle.facts.proofs.Lists.{every-same}
 use Rattle.words.specs.Word.{kindOf, granuleOf}
 use Rattle.classes.specs.declared.Shape.{Shape}
-use Rattle.fields.specs.Field.{Field, arena, page, out, frontier, owner, first, region, get, put}
+use Rattle.fields.specs.Field.{Field, page, out, first, region, get, put}
 use Rattle.fields.proofs.Changes.{Changes, changes-none, changes-put}
-use Rattle.pages.specs.Runs.{ofRun, whole}
+use Rattle.pages.proofs.Kept.{Owns, changes-owns, whole-kept}
 use Rattle.pages.specs.Stack.{blocksFrom, indexOf, pageAt, isBlock}
 use Rattle.calls.specs.Out.{startOf, outIn, inRunOf}
 use Rattle.release.specs.way.Blocks.{bitIn}
@@ -31,16 +29,12 @@ module _ (b b′ : List ℕ) (h : Changes isBit b b′) where
   unfolding startOf
   start-kept w = h .kept (page first (pageAt w)) refl refl
 
-  of-run-kept : (c q k : ℕ) → ofRun b′ c q k ≡ ofRun b c q k
-  of-run-kept c q k = rw (h .kept (page owner (q + k)) refl refl, h .kept (page first (q + k)) refl refl)
-
-  pub whole-kept : (n : ℕ) (sh : Shape) (c q : ℕ) → whole n b′ sh c q ≡ whole n b sh c q
-  unfolding whole
-  whole-kept n sh c q = rw (h .kept (arena frontier) refl refl, every-same (ofRun b′ c q) (ofRun b c q) (below (sh .pages)) (of-run-kept c q))
+  pub bits-own : Owns b b′
+  bits-own = changes-owns h (λ x. refl) (λ x. refl) refl
 
   pub in-run-kept : (n : ℕ) (sh : Shape) (c w : ℕ) → inRunOf n b′ sh c w ≡ inRunOf n b sh c w
   unfolding inRunOf
-  in-run-kept n sh c w = rw (start-kept w, h .kept (arena frontier) refl refl, whole-kept n sh c (startOf b w))
+  in-run-kept n sh c w = rw (start-kept w, bits-own .bound, whole-kept bits-own n sh c (startOf b w))
 
 -- ---- a word's block, and its bit
 pub out-in : (b : List ℕ) (sh : Shape) (q w : ℕ) → outIn b sh q w ≡ (isBlock sh q w && eqb (get b (bitIn sh q w)) 1)

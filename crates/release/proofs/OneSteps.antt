@@ -36,7 +36,8 @@ use Rattle.release.proofs.ValidSteps.{page-room, page-carved, head-low,
 use Rattle.release.proofs.MarkSteps.{block-here}
 use Rattle.release.proofs.BackSteps.{onStack, free-now, push-changes, valid-low, valid-row, valid-page}
 use Rattle.release.proofs.ReleaseSteps.{only-one, finished, run-pre, not-marked-at}
-use Rattle.release.proofs.RunLaws.{within-arena, run-out}
+use Rattle.pages.proofs.Runs.{whole-says}
+use Rattle.release.proofs.RunLaws.{run-out}
 use Rattle.release.proofs.RunSteps.{run-whole}
 
 -- ---- 13's last test
@@ -162,7 +163,7 @@ module _ (n : ℕ) (b : List ℕ) (c : ℕ) (sh : Shape) (q i : ℕ) where
 module _ (n : ℕ) (b : List ℕ) (c : ℕ) (sh : Shape) (q w : ℕ) where
   module _ (a : RunPre n b c sh q (w ∷ [])) where
     run-inside : q + sh .pages ≤ n
-    run-inside = within-arena n c sh (a .class .sound) q b (a .run)
+    run-inside = whole-says n b sh c q (a .run) .inside
 
     pub word-pre : WordPre sh q 0
     word-pre = record { sound = a .class .sound; below = omega (arith, run-inside, a .class .few); block = omega (arith, a .class .sound .blocks) }

@@ -5,7 +5,7 @@ use mathlib.Core.Bool.{true, _&&_}
 use mathlib.Core.List.{List}
 use mathlib.Core.Path.{_≡_, sym, _∙_}
 use lib.Dec.{eqb, ltb, leb}
-use borrow.Author.Tests.{leb-true, ltb-true, eqb-true}
+use borrow.Author.Tests.{ltb-true, eqb-true}
 use Rattle.facts.proofs.Bools.{and-left, and-right}
 use Rattle.words.specs.Word.{kindOf}
 use Rattle.classes.specs.declared.Shape.{Shape}
@@ -13,6 +13,7 @@ use Rattle.classes.specs.way.Sound.{Sound}
 use Rattle.fields.specs.Field.{arena, frontier, get}
 use Rattle.model.specs.Release.{ofKind}
 use Rattle.pages.specs.Runs.{whole}
+use Rattle.pages.proofs.Runs.{whole-says}
 use Rattle.pages.specs.Stack.{indexOf, pageAt, isBlock}
 use Rattle.calls.specs.Out.{startOf, inRunOf, outIn, outAt}
 use Rattle.release.specs.way.Blocks.{bitIn}
@@ -49,8 +50,7 @@ module _ (n c : ℕ) (sh : Shape) (s : Sound sh) (b : List ℕ) (w : ℕ) (o : o
   whole-of-out = and-right (ltb (pageAt w) (startOf b w + sh .pages)) _ (and-right (leb (startOf b w) (pageAt w)) _ (and-right (ltb (pageAt w) (get b (arena frontier))) _ (and-right (ltb (pageAt w) n) _ run-of-out)))
 
   pub run-within-out : startOf b w + sh .pages ≤ n
-  unfolding whole
-  run-within-out = leb-true (startOf b w + sh .pages) n (and-left _ _ whole-of-out)
+  run-within-out = whole-says n b sh c (startOf b w) whole-of-out .inside
 
   pub start-of-out : startOf b w < n
   start-of-out = omega (arith, s .paged, run-within-out)

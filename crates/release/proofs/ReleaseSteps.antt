@@ -48,8 +48,9 @@ use Rattle.release.specs.Answer.{answerAs}
 use Rattle.release.proofs.Bits.{isBit, out-in}
 use Rattle.release.proofs.BlockSteps.{none-found, found-at}
 use Rattle.release.proofs.RunSteps.{run-whole}
+use Rattle.pages.proofs.Runs.{whole-says}
 use Rattle.release.proofs.OutLaws.{page-of-out, run-within-out}
-use Rattle.release.proofs.RunLaws.{within-arena, out-here, in-low}
+use Rattle.release.proofs.RunLaws.{out-here, in-low}
 use Rattle.release.proofs.MarkLaws.{mark-bits}
 use Rattle.release.proofs.Testing.{fault-none}
 use Rattle.release.proofs.RunMarks.{fresh-changes, takes-all, clears-run, AllFresh, all-fresh, not-repeated, not-marked}
@@ -352,7 +353,7 @@ module _ (n : ℕ) (b : List ℕ) (c : ℕ) (sh : Shape) (q : ℕ) (ws : List �
   sound = a .class .sound
 
   below-n : q + sh .pages ≤ n
-  below-n = within-arena n c sh sound q b (a .run)
+  below-n = whole-says n b sh c q (a .run) .inside
 
   field-pre : FieldPre b sh q
   field-pre = record { sound = sound; below = omega (arith, below-n, a .class .few); there = omega (arith, below-n, sound .paged, a .class .long) }

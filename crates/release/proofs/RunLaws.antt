@@ -3,23 +3,23 @@
 --     run-out                   one that is out in the run is out in the class
 --     out-here                  one that is out in the class, in this run, is out in the run
 --     low-marks                 out bits cleared in another order
-use Prim.Native.Nat.{ℕ, suc, _+_, _-_, _*_, _≤_, _<_}
+use Prim.Native.Nat.{ℕ, suc, _+_, _*_, _≤_, _<_}
 use native.Mathlib.Omega.{arith}
 use native.Mathlib.Nat.{mul-le-mul-right, suc-mul}
 use mathlib.Core.Bool.{Bool, true, false}
 use mathlib.Core.List.{List, [], _∷_}
 use mathlib.Core.Path.{_≡_, refl, sym, _∙_}
-use lib.Dec.{eqb, ltb, leb}
-use borrow.Author.Tests.{leb-true, ltb-true, eqb-true, lt-ltb, le-leb}
+use lib.Dec.{ltb}
+use borrow.Author.Tests.{ltb-true, lt-ltb, le-leb}
 use Rattle.facts.specs.Lists.{every}
 use Rattle.facts.proofs.Bools.{and-left, and-right}
-use Rattle.facts.proofs.Lists.{every-at}
 use Rattle.classes.specs.declared.Shape.{Shape}
 use Rattle.classes.specs.way.Sound.{Sound}
-use Rattle.fields.specs.Field.{arena, page, out, frontier, owner, first, get, put, same}
+use Rattle.fields.specs.Field.{arena, out, frontier, first, get, put, same}
 use Rattle.fields.proofs.Laws.{put-comm}
 use Rattle.fields.proofs.Changes.{same-eq}
-use Rattle.pages.specs.Runs.{ofRun, whole}
+use Rattle.pages.specs.Runs.{whole}
+use Rattle.pages.proofs.Runs.{whole-says}
 use Rattle.pages.specs.Stack.{setOuts, indexOf, pageAt, isBlock}
 use Rattle.calls.specs.Out.{startOf, outIn, inRunOf, outAt}
 use Rattle.release.proofs.Bits.{out-in, from-block, at-block, below-capacity}
@@ -49,34 +49,18 @@ module _ (n c : ℕ) (sh : Shape) (s : Sound sh) (q : ℕ) where
         omega (arith, suc-mul (indexOf sh q w) (sh .block), from-block sh q w e, at-block sh q w e, s .fits, s .wide)
 
   module _ (b : List ℕ) (h : whole n b sh c q ≡ true) where
-    pub within-arena : q + sh .pages ≤ n
-    unfolding whole
-    within-arena = leb-true (q + sh .pages) n (and-left _ _ h)
-
-    within-frontier : q + sh .pages ≤ get b (arena frontier)
-    unfolding whole
-    within-frontier = leb-true (q + sh .pages) (get b (arena frontier)) (and-left _ _ (and-right (leb (q + sh .pages) n) _ h))
-
-    names-first : (k : ℕ) → k < sh .pages → get b (page first (q + k)) ≡ q
-    unfolding whole
-    names-first k l =
-        let z = every-at (ofRun b c q) (sh .pages) k (and-right (leb (q + sh .pages) (get b (arena frontier))) _ (and-right (leb (q + sh .pages) n) _ h)) l in
-        eqb-true (get b (page first (q + k))) q (and-right (eqb (get b (page owner (q + k))) (suc c)) _ z)
-
     block-start : (w : ℕ) → isBlock sh q w ≡ true → startOf b w ≡ q
     unfolding startOf
-    block-start w e =
-        let k = pageAt w - q in
-        let x : q + k ≡ pageAt w = omega (arith, not-before w e) in
-        rw (← x) (names-first k (omega (arith, not-before w e, not-behind w e)))
+    block-start w e = whole-says n b sh c q h .first (pageAt w) (not-before w e) (not-behind w e)
 
     block-in-run : (w : ℕ) → isBlock sh q w ≡ true → inRunOf n b sh c w ≡ true
     unfolding inRunOf
     block-in-run w e =
+        let r = whole-says n b sh c q h in
         rw (
           block-start w e,
-          lt-ltb (pageAt w) n (omega (arith, within-arena, not-behind w e)),
-          lt-ltb (pageAt w) (get b (arena frontier)) (omega (arith, within-frontier, not-behind w e)),
+          lt-ltb (pageAt w) n (omega (arith, r .inside, not-behind w e)),
+          lt-ltb (pageAt w) (get b (arena frontier)) (omega (arith, r .below, not-behind w e)),
           le-leb q (pageAt w) (not-before w e),
           lt-ltb (pageAt w) (q + sh .pages) (not-behind w e),
           h,

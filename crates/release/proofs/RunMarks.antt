@@ -29,7 +29,8 @@ use Rattle.calls.specs.Out.{startOf, outIn, outAt, outs, clean, unmarked, repea
 use Rattle.fields.specs.way.OutBits.{outWord}
 use Rattle.release.specs.way.Marks.{markAt, freshAt, isMarkedIn, markedIn, markCount, freshIn, freshCount, freshBook, noMarks, takeWord, takeMarks, countBy, bookBy}
 use Rattle.facts.proofs.Lists.{every-same, every-made}
-use Rattle.release.proofs.Bits.{out-in, below-capacity, whole-kept, start-kept}
+use Rattle.pages.proofs.Kept.{whole-kept}
+use Rattle.release.proofs.Bits.{out-in, below-capacity, bits-own, start-kept}
 use Rattle.release.proofs.RunLaws.{low-marks, run-out, run-start}
 use Rattle.release.proofs.OutLaws.{block-of-out}
 use Rattle.release.proofs.MarkLaws.{isMarkWord, mark-bits, put-mark, out-kept, all-single}
@@ -234,7 +235,7 @@ module _ (sh : Shape) (s : Sound sh) (at : ℕ → ℕ) where
             let g = fresh-put sh s (at w) b w o in
             let m = mark-bits b b′ g in
             let k : countBy at (markedIn b sh (at w) w) sh ws ≡ length ws = omega (arith, rw o at l) in
-            let r = z o (every-same (inWhole b′) (inWhole b) ws (λ v. whole-kept b b′ m n sh c (at v)) ∙ and-right (inWhole b w) _ h) k in
+            let r = z o (every-same (inWhole b′) (inWhole b) ws (λ v. whole-kept (bits-own b b′ m) n sh c (at v)) ∙ and-right (inWhole b w) _ h) k in
             let i = fresh-is-out sh s (at w) b w o in
             let x = run-out n c sh s (at w) b (and-left (inWhole b w) _ h) w i in
             let y = run-start n c sh s (at w) b (and-left (inWhole b w) _ h) w i in
