@@ -14,7 +14,7 @@ use Rattle.words.specs.Host.{digit}
 use Rattle.words.specs.Limits.{maxParked}
 use Rattle.classes.specs.Shape.{classCount}
 use Rattle.rules.specs.declared.Limits.{Limits}
-use Rattle.rules.specs.Rules.{limits, plainRules, rowsIn, spans, rowsOn, rowsFor, limitsFit, goodRow, badRows, twoRows, noRow, rowsFault, rowLimits, limitsIn, rulesOf}
+use Rattle.rules.specs.Rules.{limits, plainRules, rowsIn, spans, rowsOn, rowsFor, goodRow, badRows, twoRows, noRow, rowsFault, rowLimits, limitsIn, rulesOf}
 use Rattle.rules.specs.way.Rows.{rowAt, HasRow}
 
 -- ---- one row
@@ -25,21 +25,19 @@ module _ (ws : List ℕ) (i : ℕ) where
   pub spans-not : (c : ℕ) → c < getD ws i 0 → false ≡ spans (rowAt ws i) c
   spans-not c h = rw (lt-leb (getD ws i 0) c h)
 
-  pub fit-empty : getD ws (i + 2) 0 ≤ maxParked → leb (getD ws (i + 3) 0) maxParked ≡ limitsFit (rowAt ws i)
-  fit-empty h = rw (le-leb (getD ws (i + 2) 0) maxParked h)
+  pub good-many : maxParked < getD ws (i + 2) 0 → false ≡ goodRow (rowAt ws i)
+  good-many h = rw (lt-leb (getD ws (i + 2) 0) maxParked h)
 
-  pub fit-not : maxParked < getD ws (i + 2) 0 → false ≡ limitsFit (rowAt ws i)
-  fit-not h = rw (lt-leb (getD ws (i + 2) 0) maxParked h)
+  module _ (e : getD ws (i + 2) 0 ≤ maxParked) where
+    pub good-colder : maxParked < getD ws (i + 3) 0 → false ≡ goodRow (rowAt ws i)
+    good-colder h = rw (le-leb (getD ws (i + 2) 0) maxParked e, lt-leb (getD ws (i + 3) 0) maxParked h)
 
-  module _ (t : Bool) (e : t ≡ limitsFit (rowAt ws i)) where
-    pub good-ends : t ≡ true → getD ws i 0 ≤ getD ws (i + 1) 0 → ltb (getD ws (i + 1) 0) classCount ≡ goodRow (rowAt ws i)
-    good-ends u h = rw (← e, u, le-leb (getD ws i 0) (getD ws (i + 1) 0) h)
+    module _ (u : getD ws (i + 3) 0 ≤ maxParked) where
+      pub good-ends : getD ws i 0 ≤ getD ws (i + 1) 0 → ltb (getD ws (i + 1) 0) classCount ≡ goodRow (rowAt ws i)
+      good-ends h = rw (le-leb (getD ws (i + 2) 0) maxParked e, le-leb (getD ws (i + 3) 0) maxParked u, le-leb (getD ws i 0) (getD ws (i + 1) 0) h)
 
-    pub good-turned : t ≡ true → getD ws (i + 1) 0 < getD ws i 0 → false ≡ goodRow (rowAt ws i)
-    good-turned u h = rw (← e, u, lt-leb (getD ws i 0) (getD ws (i + 1) 0) h)
-
-    pub good-unfit : t ≡ false → false ≡ goodRow (rowAt ws i)
-    good-unfit u = rw (← e, u)
+      pub good-turned : getD ws (i + 1) 0 < getD ws i 0 → false ≡ goodRow (rowAt ws i)
+      good-turned h = rw (le-leb (getD ws (i + 2) 0) maxParked e, le-leb (getD ws (i + 3) 0) maxParked u, lt-leb (getD ws i 0) (getD ws (i + 1) 0) h)
 
 pub plain-small : (c : ℕ) → c < 64 → limits 4 256 ≡ plainRules c
 unfolding plainRules

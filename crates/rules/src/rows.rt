@@ -2,7 +2,7 @@
 ghost use mathlib.Core.Path.{_≡_};
 ghost use Rattle.facts.specs.Lists.{every};
 ghost use Rattle.rules.specs.way.Rows.{HasRow, rowAt};
-ghost use Rattle.rules.specs.Rules.{plainRules, spans, limitsFit, goodRow, rowsIn, rowsFor, badRows, twoRows, noRow, rowsFault, rowLimits, rulesOf};
+ghost use Rattle.rules.specs.Rules.{plainRules, spans, goodRow, rowsIn, rowsFor, badRows, twoRows, noRow, rowsFault, rowLimits, rulesOf};
 use super::Limits;
 use classes::CLASS_COUNT;
 use classes::NUM_CLASSES;
@@ -19,24 +19,18 @@ fn spans(rows: &[u32], i: usize, c: u32) -> bool
     false
 }
 
-fn limits_fit(rows: &[u32], i: usize) -> bool
-    requires { ⌜ HasRow (now rows) i ⌝ }
-    ensures { λ r. ⌜ r ≡ limitsFit (rowAt (now (rows .entry)) i) ⌝ }
-{
-    if rows[i + 2] <= MAX_PARKED {
-        return rows[i + 3] <= MAX_PARKED;
-    }
-    false
-}
-
 fn good_row(rows: &[u32], i: usize) -> bool
     requires { ⌜ HasRow (now rows) i ⌝ }
     ensures { λ r. ⌜ r ≡ goodRow (rowAt (now (rows .entry)) i) ⌝ }
 {
-    if limits_fit(rows, i) {
-        if rows[i] <= rows[i + 1] {
-            return rows[i + 1] < CLASS_COUNT;
-        }
+    if rows[i + 2] > MAX_PARKED {
+        return false;
+    }
+    if rows[i + 3] > MAX_PARKED {
+        return false;
+    }
+    if rows[i] <= rows[i + 1] {
+        return rows[i + 1] < CLASS_COUNT;
     }
     false
 }
@@ -128,17 +122,8 @@ pub fn rows_fault(rows: &[u32]) -> u32
 fn plain_limits(c: u32) -> Limits
     ensures { λ r. ⌜ r ≡ plainRules c ⌝ }
 {
-    if c < NUM_CLASSES {
-        Limits {
-            empty: 4,
-            cold: 256,
-        }
-    } else {
-        Limits {
-            empty: 32,
-            cold: 256,
-        }
-    }
+    let empty = if c < NUM_CLASSES { 4 } else { 32 };
+    Limits { empty, cold: 256 }
 }
 
 fn row_limits(rows: &[u32], i: usize) -> Limits

@@ -1,7 +1,7 @@
 // The host word, made and taken apart.
 ghost use mathlib.Core.Path.{_≡_};
 ghost use Prim.Native.Nat.{_<_};
-ghost use Rattle.words.specs.Host.{bit, hostBits, badHost, hostWord, reservationGranted, commitGranted, discardDone, discardZeroes, discardZeroed};
+ghost use Rattle.words.specs.Host.{bit, hostBits, badHost, hostWord, reservationGranted, commitGranted, discardZeroed};
 use super::Host;
 
 impl Host {
@@ -53,22 +53,10 @@ impl Host {
         self.bit(1)
     }
 
-    pub fn discard_done(self) -> bool
-        ensures { λ r. ⌜ r ≡ discardDone (self .bits) ⌝ }
-    {
-        self.bit(2)
-    }
-
-    pub fn discard_zeroes(self) -> bool
-        ensures { λ r. ⌜ r ≡ discardZeroes (self .bits) ⌝ }
-    {
-        self.bit(3)
-    }
-
-    // Does a discard of this call leave zeroed pages.
+    // Does a discard of this call leave zeroed pages: it is done, and a done one zeroes.
     pub fn discard_zeroed(self) -> bool
         ensures { λ r. ⌜ r ≡ discardZeroed (self .bits) ⌝ }
     {
-        self.discard_done() && self.discard_zeroes()
+        self.bit(2) && self.bit(3)
     }
 }

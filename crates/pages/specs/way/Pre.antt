@@ -46,11 +46,6 @@ pub record ParkPre (b : List ℕ) (c : ℕ) (k : Park) (q : ℕ) : Type 0 where
   pub there : words (q + 1) ≤ length b
   pub few : get b (class (stored k) c) ≤ maxParked
 
-pub record PopStorePre (b : List ℕ) (c : ℕ) (k : Park) (q : ℕ) : Type 0 where
-  pub known : c < 76
-  pub there : words (q + 1) ≤ length b
-  pub some : 1 ≤ get b (class (stored k) c)
-
 pub record UnparkRunPre (b : List ℕ) (c : ℕ) (k : Park) (q : ℕ) : Type 0 where
   pub known : c < 76
   pub below : q < maxPages

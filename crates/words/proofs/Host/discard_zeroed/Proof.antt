@@ -4,10 +4,10 @@ use Rattle.words.proofs.Host.discard_zeroed.Statement.{statement}
 use Rattle.words.proofs.Host.discard_zeroed.Tie as tie
 
 returns : tie.Need-returns
-returns c = rw (← c .before .before .discard-done .ensures, c .before .if1 .taken) (c .discard-zeroes .ensures)
+returns c = rw (← c .before .before .bit .ensures, c .before .if1 .taken) (c .bit2 .ensures)
 
 returns-2 : tie.Need-returns-2
-returns-2 c = rw (← c .before .discard-done .ensures, c .if1 .left)
+returns-2 c = rw (← c .before .bit .ensures, c .if1 .left)
 
 pub discard-zeroed-spec : {M : Type 1} → statement M
 discard-zeroed-spec =
