@@ -21,12 +21,10 @@ use Rattle.model.specs.Arena as Arenas
 use Rattle.model.specs.Calls.{Call, Answer, Named, names}
 use Rattle.model.specs.Release.{ofKind, outHere}
 use Rattle.model.specs.Heap.{Heap, newHeap, step}
-use Rattle.model.specs.History.{Event, events, heapAfter}
+use Rattle.model.specs.History.{Event, heapAfter}
 use Rattle.model.specs.Entries.{OutIn}
-use Rattle.model.specs.Offered.{Spent}
 use Rattle.model.proofs.Ways.{goes}
 use Rattle.model.proofs.Alone.{other}
-use Rattle.arena.specs.Load.{loadArena}
 use Rattle.calls.specs.Out.{outAt}
 use Rattle.refinement.specs.way.Represents.{Represents}
 use Rattle.refinement.specs.Direct.{Reply}
@@ -35,7 +33,7 @@ use Rattle.refinement.proofs.ArenaReached.{heap-next, reached-after}
 use Rattle.refinement.proofs.Book.{setting-of}
 use Rattle.refinement.proofs.Found.{out-here}
 use Rattle.refinement.proofs.Whole.{call-whole}
-use Rattle.pool.specs.Pool.{Pool, newPool, PoolCall, PoolAnswer, PoolRequest, to, alloc, free, trim, callBy, poolStep, noBlock}
+use Rattle.pool.specs.Pool.{Pool, newPool, PoolCall, PoolAnswer, PoolRequest, to, alloc, free, trim, callBy, poolStep}
 use Rattle.pool.specs.Observed.{PoolEvent, observedOf, poolEvents, poolEventsFrom, poolAfter, heapCalls, poolAnswersOf, isOf}
 use Rattle.pool.specs.way.Claims.{answerTo}
 use Rattle.pool.proofs.Apart.{pool-disjoint}

@@ -2,7 +2,7 @@
 use Prim.Native.Nat.{ℕ, _+_, _-_, _*_, _/_, _≤_, _<_}
 use native.Mathlib.Omega.{arith}
 use native.Mathlib.Numerals.{add-one}
-use mathlib.Core.Bool.{Bool, true, false}
+use mathlib.Core.Bool.{Bool, true}
 use mathlib.Core.List.{List}
 use mathlib.Core.Path.{_≡_, refl, ap, _∙_}
 use lib.ListN.{length}
@@ -13,7 +13,7 @@ use Rattle.fields.specs.Field.{page, mark, slot, free, carved, virgin, listed, 
 use Rattle.fields.specs.Clear.{clearOut, clearMarks}
 use Rattle.fields.proofs.Laws.{length-put}
 use Rattle.fields.proofs.Clear.{length-clear, clear-more, marks-past-out}
-use Rattle.words.specs.Host.{digit}
+use Rattle.words.proofs.Answers.{byte-digit}
 use Rattle.pages.specs.Runs.{nameRun}
 use Rattle.pages.specs.Stack.{descending, push}
 use Rattle.pages.specs.way.Pre.{StockPre, CarvePre, ClearPre}
@@ -105,10 +105,6 @@ stocked-none sh h = rw (ne-eqb (sh .kind) 2 h)
 
 pub stock-pre : (b : List ℕ) (sh : Shape) (q k : ℕ) → CarvePre b sh q → k ≡ stocked sh → StockPre b q k
 stock-pre b sh q k h e = record { few = stocked-le sh k e (h .few); there = h .there }
-
-byte-digit : (v : Bool) → boolByte v ≡ digit v
-byte-digit true = refl
-byte-digit false = refl
 
 pub carve-done : (b : List ℕ) (sh : Shape) (q : ℕ) (v : Bool) (k : ℕ) (b₁ b₂ b₃ b₄ : List ℕ) → k ≡ stocked sh → b₁ ≡ push b q 0 (descending 0 k) → b₂ ≡ put b₁ (page virgin q) (boolByte v) → b₃ ≡ put b₂ (page carved q) k → b₄ ≡ put b₃ (page free q) k → b₄ ≡ carveAnew b sh q v
 unfolding carveAnew

@@ -1,13 +1,13 @@
 -- What an answer tells: a refusal's number, or the count; and the same through out-parameters.
 use Prim.Native.Nat.{ℕ, zero, suc}
 use native.Mathlib.Omega.{arith}
-use mathlib.Core.Bool.{Bool, true, false}
+use mathlib.Core.Bool.{Bool}
 use mathlib.Core.List.{List}
 use mathlib.Core.Path.{_≡_, refl, sym, ap, _∙_}
 use mir.Val.{boolByte}
 use lib.Dec.{eqb}
 use borrow.Author.Tests.{ne-eqb}
-use Rattle.words.proofs.Answers.{eqb-digit}
+use Rattle.words.proofs.Answers.{eqb-digit, byte-digit}
 use Rattle.words.specs.Host.{digit}
 use Rattle.take.specs.declared.call.Take.{Take}
 use Rattle.calls.specs.Take as Heap
@@ -36,10 +36,6 @@ told-virgin zero j w m v e = cc
 told-virgin (suc k) j w m v e = cc
 
 -- ---- through out-parameters
-byte-digit : (v : Bool) → boolByte v ≡ digit v
-byte-digit true = refl
-byte-digit false = refl
-
 module _ (t : Heap.Took) (x y : List ℕ) where
   module _ (s : Take) (k : Takes s x y t) where
     pub into-refused : (c m v : ℕ) → s ≡ Refused c → TakesInto c x y m m v v t

@@ -16,7 +16,6 @@ use Rattle.classes.specs.declared.Shape.{Shape}
 use Rattle.classes.specs.Shape.{shapeOf}
 use Rattle.classes.proofs.Shapes.{shape-sound}
 use Rattle.fields.specs.Field.{arena, class, frontier, partial, empty, cold, words, get}
-use Rattle.fields.specs.Ranges.{maxPages}
 use Rattle.fields.proofs.Changes.{Changes}
 use Rattle.runs.specs.declared.Commit as Commit
 use Rattle.runs.specs.declared.Commit.the-variants as Made
@@ -43,7 +42,7 @@ use Rattle.take.specs.Answer.{answerOf}
 use Rattle.take.proofs.TakeSpares.{blocks-fixed}
 use Rattle.take.proofs.AnswerSteps.{into-refused, into-took}
 use Rattle.take.proofs.TakePages.{Valid}
-use Rattle.take.proofs.Fill.{fill-most, foreseen, fill-planned}
+use Rattle.take.proofs.Fill.{foreseen, fill-planned}
 use Rattle.take.proofs.TakeAlone.{link-changes, alone-walks, alone-planned}
 use Rattle.take.proofs.TakeNew.{isNew, stocked-le, new-changes, new-free, new-carved, new-valid, new-virgin}
 use Rattle.take.proofs.TakeGranted.{commit-granted}
@@ -438,5 +437,3 @@ module _ (w : Bool) (n : ℕ) (b : List ℕ) (c h : ℕ) (l : List ℕ) (sh : Sh
 pub whole-pre : (n : ℕ) (b : List ℕ) (c h : ℕ) → CallPre n b c → ListPre true n b c h
 whole-pre n b c h a = record { call = a; granted = λ z. absurd (false≢true (sym z)) }
 
-pub part-pre : (n : ℕ) (b : List ℕ) (c h : ℕ) → CallPre n b c → h ≡ 15 → ListPre false n b c h
-part-pre n b c h a e = record { call = a; granted = λ z. e }

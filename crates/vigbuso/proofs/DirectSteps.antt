@@ -12,6 +12,7 @@ use mir.Syntax.{w32}
 use borrow.Author.Tests.{leb-true, eq-eqb, ne-eqb}
 use Rattle.facts.proofs.Bools.{and-right}
 use Rattle.words.specs.Host.{digit}
+use Rattle.words.proofs.Answers.{byte-digit}
 use Rattle.rules.specs.Rules.{rowsFault, rulesOf}
 use Rattle.fields.specs.Field.{arena, size, get, Has, words}
 use Rattle.fields.specs.Outcome.{Did}
@@ -89,10 +90,6 @@ module _ (b : List ℕ) (n : ℕ) (ws : List ℕ) (r : ℕ) (e : r ≡ openFault
   open-done x z f = rw (← e, eq-eqb r 0 z) (record { answer = refl; book = f })
 
 -- ---- the out-parameters
-pub byte-digit : (g : Bool) → boolByte g ≡ digit g
-byte-digit true = refl
-byte-digit false = refl
-
 module _ (o : Committed) (x : List ℕ) (s : Commit) (k : Answers s x o) where
   pub commit-ends-refused : (c q f : ℕ) → s ≡ Refused c → CommitEnds o c x q q f f
   commit-ends-refused c q f e = let z = sym (k .answer) ∙ e in record { code = rw z; book = k .book; first = rw z; fresh = rw z }

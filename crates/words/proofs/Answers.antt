@@ -11,6 +11,7 @@ use borrow.Author.Tests.{le-ltb, ltb-false}
 use lib.Bits.{bitOr, or-shifted-r}
 use lib.Dec.{eqb}
 use lib.Arith.{digits-lt}
+use mir.Val.{boolByte}
 use lib.Pow.{shl-exact, high, low, mod-pow-add}
 use Rattle.words.specs.Host.{bit, digit, hostBits, hostMax, hostWord, reservationGranted, commitGranted, discardDone, discardZeroes, badHost}
 
@@ -24,6 +25,11 @@ set-bit k w b {n} h l = ap (bitOr n) (shl-exact 1 k w (digit-lt b) h) ∙ or-shi
 pub eqb-digit : (b : Bool) → eqb (digit b) 1 ≡ b
 eqb-digit true = refl
 eqb-digit false = refl
+
+-- a truth value as a number of the code
+pub byte-digit : (b : Bool) → boolByte b ≡ digit b
+byte-digit true = refl
+byte-digit false = refl
 
 digit-eqb : (x : ℕ) → x < 2 → digit (eqb x 1) ≡ x
 digit-eqb zero h = refl
