@@ -57,6 +57,9 @@ ROWS_CODE = "crates/rules/src/rows.rt"
 # The tests of 15 and 10, in both of a class's releases.
 REPEATED = "(cond (repeats sh s ws) (refuse s 15)"
 FOREIGN = "(cond (not (every (outHere sh s) ws)) (refuse s 10)"
+# What a take is served where a page is partial, and where the first is empty.
+FROM_PARTIAL = "takeFrom sh l (p ∷ ps) es cs fs = done (served l (fillFromList sh (sh .batch) (p ∷ ps)) es cs fs)"
+FROM_EMPTY = "takeFrom sh l [] (e ∷ es) cs fs = done (served l (fillFromList sh (sh .batch) (reused sh e ∷ [])) es cs fs)"
 # The boundary tests that look into the book.
 BOOK_TESTS = [
     "ranges::",
@@ -120,8 +123,8 @@ use Rattle.model.specs.Reservation.{Reserved}
 use Rattle.model.specs.Counted.{Counted}
 use Rattle.model.specs.Groups.{GroupsGive}
 use Rattle.model.specs.Offered as Told
-use Rattle.model.specs.Offered.{CleanBlock, gets, yieldsUp, renews, touches, blocksAt, Used, Full}
-use Rattle.model.specs.Sources.{Has, BlockOf, IsPartial, IsEmpty, IsCold, Chilled, chills, draws, follows, Later}
+use Rattle.model.specs.Offered.{CleanBlock, gets, yieldsUp, renews, releasesTo, blocksAt, Used, Full}
+use Rattle.model.specs.Sources.{Has, ComesFrom, IsPartial, IsEmpty, IsCold, Chilled, chills, draws, follows, Later}
 use Rattle.model.specs.Demands.{Offered, Virgins, Sources}
 use Rattle.model.specs.Examples.{smalls, rising, lent}
 use Rattle.model.proofs.Since.{sinceFrom, observed}
@@ -212,14 +215,14 @@ at-zero : (q : ℕ) → sinceFrom (gets 21 q) (yieldsUp 21 q) false vs ≡ true 
 UNFOLDING
 at-zero q e = by-cases (eqb 0 q) (λ a. a) (λ a. absurd (false≢true (rw a at e)))
 
-not-clean : sinceFrom (renews 21 0) (touches 21 0) false vs ≡ true → ⊥
+not-clean : sinceFrom (renews 21 0) (releasesTo 21 0) false vs ≡ true → ⊥
 UNFOLDING
 not-clean e = false≢true e
 
 no-clean : (w : ℕ) → CleanBlock vs 21 w → ⊥
 no-clean w b =
     let z : 0 ≡ b .run = eqb-true 0 (b .run) (at-zero (b .run) (observed (gets 21 (b .run)) (yieldsUp 21 (b .run)) vs (b .has))) in
-    not-clean (rw (sym z) at (observed (renews 21 (b .run)) (touches 21 (b .run)) vs (b .clean)))
+    not-clean (rw (sym z) at (observed (renews 21 (b .run)) (releasesTo 21 (b .run)) vs (b .clean)))
 
 denied : Virgins 4 plainRules xs → ⊥
 UNFOLDING
@@ -290,7 +293,7 @@ not-out o =
     let one : is 45 back e ≡ 1 = rw (← o .class, ← o .word) (is-self e) in
     absurd (omega (arith, none-live))
 
-empty : BlockOf IsEmpty vs 45 second
+empty : ComesFrom IsEmpty vs 45 second
 UNFOLDING
 empty = record {{ run = 1; has = inr (inl (refl, refl)); is = (no-used, not-chilled); block = refl }}
 
@@ -348,7 +351,7 @@ not-chilled : Chilled 45 0 vs → ⊥
 UNFOLDING
 not-chilled c = false≢true (observed (chills 45 0) (draws 45 0) vs c)
 
-cold : BlockOf IsCold vs 45 second
+cold : ComesFrom IsCold vs 45 second
 UNFOLDING
 cold = record {{ run = 1; has = inr (inl (refl, refl)); is = (no-used 1, inr (inr (inr (inl (refl, refl))))); block = refl }}
 
@@ -372,7 +375,7 @@ first = {(1 << 62) + 3}
 not-chilled : (q : ℕ) → Chilled 45 q vs → sinceFrom (chills 45 q) (draws 45 q) false vs ≡ false → ⊥
 not-chilled q c n = false≢true (sym n ∙ observed (chills 45 q) (draws 45 q) vs c)
 
-one : BlockOf IsEmpty vs 45 first
+one : ComesFrom IsEmpty vs 45 first
 UNFOLDING
 one = record {{ run = 0; has = inl (refl, refl); is = (no-used 0, λ c. not-chilled 0 c refl); block = refl }}
 
@@ -382,7 +385,7 @@ other = record {{ run = 1; has = inr (inl (refl, refl)); is = (no-used 1, λ c. 
 
 not-later : Later 45 0 1 vs → ⊥
 UNFOLDING
-not-later l = false≢true (observed (follows 45 0 1) (touches 45 1) vs l)
+not-later l = false≢true (observed (follows 45 0 1) (releasesTo 45 1) vs l)
 
 denied : Sources 4 rules xs → ⊥
 UNFOLDING one other
@@ -452,6 +455,20 @@ def limit(name, heap, plain):
             (ROWS_CODE, in_code(told), in_code(wrong)),
         ],
     )
+
+
+def unlinked_where(test):
+    """When its batch is full a take unlinks a page that passes the test."""
+    full, *ends = "if *count >= REFILL_BATCH {", "    break;", "}"
+    return "heap.rs", at(12, full, *ends), at(12, full, f"    if {test} {{", "        unlink_partial(list, page);", "    }", *ends)
+
+
+def empty_where(small, medium):
+    """A take turns to the empty runs by another test: of a small class, of a medium one."""
+    asked = lambda test: f"if {test} && !list.empty.is_null() {{"
+    in_small = lambda test: at(12, asked(test), "    // Recycle")
+    in_medium = lambda test: at(12, "    refill_cap,", ");") + "\n\n" + at(12, asked(test))
+    return [("heap.rs", place("count == 0"), place(test)) for place, test in [(in_small, small), (in_medium, medium)]]
 
 
 RULES = [
@@ -987,19 +1004,7 @@ RULES = [
         "free blocks of a carved page leave the list",
         denied=not_offered(70),
         heap=[
-            (
-                "heap.rs",
-                at(12, "if *count >= REFILL_BATCH {", "    break;", "}"),
-                at(
-                    12,
-                    "if *count >= REFILL_BATCH {",
-                    "    if (*page).used as usize + (*page).free_count as usize >= (*page).capacity() {",
-                    "        unlink_partial(list, page);",
-                    "    }",
-                    "    break;",
-                    "}",
-                ),
-            )
+            unlinked_where("(*page).used as usize + (*page).free_count as usize >= (*page).capacity()"),
         ],
         model=[
             (
@@ -1013,19 +1018,7 @@ RULES = [
         "a page with one block left leaves the list",
         denied=not_offered(65),
         heap=[
-            (
-                "heap.rs",
-                at(12, "if *count >= REFILL_BATCH {", "    break;", "}"),
-                at(
-                    12,
-                    "if *count >= REFILL_BATCH {",
-                    "    if (*page).free_count == 1 && (*page).used as usize + 1 >= (*page).capacity() {",
-                    "        unlink_partial(list, page);",
-                    "    }",
-                    "    break;",
-                    "}",
-                ),
-            ),
+            unlinked_where("(*page).free_count == 1 && (*page).used as usize + 1 >= (*page).capacity()"),
             (
                 "heap.rs",
                 at(16, "if (*span).free_count == 0 {", "    munlink_partial(list, span);"),
@@ -1253,12 +1246,12 @@ RULES = [
         model=[
             (
                 CLASS,
-                "takeFrom sh l (p ∷ ps) es cs fs = done (served l (fillFromList sh (sh .batch) (p ∷ ps)) es cs fs)",
+                FROM_PARTIAL,
                 "takeFrom sh l ps (e ∷ es) cs fs = done (served l (fillFromList sh (sh .batch) (reused sh e ∷ ps)) es cs fs)",
             ),
             (
                 CLASS,
-                "takeFrom sh l [] (e ∷ es) cs fs = done (served l (fillFromList sh (sh .batch) (reused sh e ∷ [])) es cs fs)",
+                FROM_EMPTY,
                 "takeFrom sh l (p ∷ ps) [] cs fs = done (served l (fillFromList sh (sh .batch) (p ∷ ps)) [] cs fs)",
             ),
         ],
@@ -1266,22 +1259,11 @@ RULES = [
     Rule(
         "a cold page comes before the empty ones",
         denied=NOT_EMPTY_FIRST,
-        heap=[
-            (
-                "heap.rs",
-                at(12, "if count == 0 && !list.empty.is_null() {", "    // Recycle"),
-                at(12, "if count == 0 && list.cold_len == 0 && !list.empty.is_null() {", "    // Recycle"),
-            ),
-            (
-                "heap.rs",
-                at(12, "    refill_cap,", ");") + "\n\n" + at(12, "if count == 0 && !list.empty.is_null() {"),
-                at(12, "    refill_cap,", ");") + "\n\n" + at(12, "if count == 0 && list.cold_len == 0 && !list.empty.is_null() {"),
-            ),
-        ],
+        heap=empty_where("count == 0 && list.cold_len == 0", "count == 0 && list.cold_len == 0"),
         model=[
             (
                 CLASS,
-                "takeFrom sh l [] (e ∷ es) cs fs = done (served l (fillFromList sh (sh .batch) (reused sh e ∷ [])) es cs fs)",
+                FROM_EMPTY,
                 "takeFrom sh l [] es (c ∷ cs) fs = done (served l (fillFromList sh (sh .batch) (thawed sh c ∷ [])) es cs fs)",
             ),
             (
@@ -1294,23 +1276,12 @@ RULES = [
     Rule(
         "an empty page comes after partial ones that did not fill the list",
         denied=NOT_PARTIAL_FIRST,
-        heap=[
-            (
-                "heap.rs",
-                at(12, "if count == 0 && !list.empty.is_null() {", "    // Recycle"),
-                at(12, "if count < REFILL_BATCH && !list.empty.is_null() {", "    // Recycle"),
-            ),
-            (
-                "heap.rs",
-                at(12, "    refill_cap,", ");") + "\n\n" + at(12, "if count == 0 && !list.empty.is_null() {"),
-                at(12, "    refill_cap,", ");") + "\n\n" + at(12, "if count < refill_cap && !list.empty.is_null() {"),
-            ),
-        ],
+        heap=empty_where("count < REFILL_BATCH", "count < refill_cap"),
         model=[
             (CLASS, "use lib.Dec.{eqb}", "use lib.Dec.{eqb, ltb}"),
             (
                 CLASS,
-                "takeFrom sh l (p ∷ ps) es cs fs = done (served l (fillFromList sh (sh .batch) (p ∷ ps)) es cs fs)\n",
+                FROM_PARTIAL + "\n",
                 "takeFrom sh l (p ∷ ps) [] cs fs = done (served l (fillFromList sh (sh .batch) (p ∷ ps)) [] cs fs)\n"
                 "takeFrom sh l (p ∷ ps) (e ∷ es) cs fs =\n"
                 "    cond (ltb (length (fillFromList sh (sh .batch) (p ∷ ps) .blocks)) (sh .batch))\n"
@@ -1449,7 +1420,6 @@ class Models:
         if answer.returncode == 0 or names:
             return list(names)
         return answer.stdout.strip().splitlines()[-1:]
-
 
     def denies(self, proof):
         """Whether the checker takes a proof of `denied`."""

@@ -1,7 +1,7 @@
 -- The ways through a group release.
 --     faulted .. tested          the numbers of the taking, each over the whole list or at once
 --     refused, settled           what the call answers
---     no-list .. bad-host        numbers 7, 8, 9 and 3
+--     no-list .. wrong-chunks    numbers 7, 8 and 9
 --     small-pre                  what the call asks holds of every small class
 use Prim.Native.Nat.{ℕ, _≤_, _<_}
 use native.Mathlib.Omega.{arith}

@@ -1,8 +1,8 @@
 -- Numbers 11 and 13 of a group release once the blocks are taken: no test reads an out bit. And what the tests tell of the pages.
 --     match-kept, chunks-valid-kept    the tests are those of the book before
---     lands                            the first page of a word's run, and of a chunk's, is the page itself, below the frontier
+--     Lands                            a page below the frontier
 --     match-is                         number 11, by the words' own pages
---     chunks-land                      number 11 passed: the chunks' pages are pages of listed words
+--     fits-lands                       number 11 passed: a chunk's page is one of a listed word's
 --     slots-left                       number 13 passed: the pages' stacks have room for the listed blocks
 use Prim.Native.Nat.{ℕ, zero, suc, _+_, _≤_, _<_}
 use native.Mathlib.Omega.{arith}

@@ -23,9 +23,9 @@ use Rattle.pages.specs.declared.Park.the-variants.{Empty, Cold}
 use Rattle.words.specs.Host.{digit}
 use Rattle.pages.specs.Stack.{descending, setOuts, push}
 use Rattle.pages.specs.Links.{pointNext, linked, cutOut, link, unlink, top, stored, parkRun}
-use Rattle.pages.specs.Carve.{stocked, carveAnew}
+use Rattle.pages.specs.Carve.{carvedAtOnce, carveAnew}
 use Rattle.pages.proofs.Descending.{small, length-descending}
-use Rattle.pages.proofs.Frames.{stocked-le}
+use Rattle.pages.proofs.Frames.{at-once-few}
 use Rattle.pages.proofs.Frames.{changes-link, changes-unlink, changes-park-run, changes-carve}
 use Rattle.model.specs.declared.Destination.{Destination}
 use Rattle.model.specs.declared.Destination.the-variants.{ToEmpty, ToCold, ToArena}
@@ -134,8 +134,8 @@ module _ (c q : ℕ) (hc : ltb c 76 ≡ true) (f : Field) (v : ℕ) (of : ok f �
     carve-past : (b : List ℕ) (z : Bool) → carveAnew (put b f v) sh q z ≡ put (carveAnew b sh q z) f v
     unfolding carveAnew
     carve-past b z =
-        let k = stocked sh in
-        let l : 0 + length (descending 0 k) ≤ 4096 = omega (arith, length-descending 0 k, stocked-le sh k refl few) in
+        let k = carvedAtOnce sh in
+        let l : 0 + length (descending 0 k) ≤ 4096 = omega (arith, length-descending 0 k, at-once-few sh k refl few) in
         past _ _ (page free q) k refl (own q)
         (past _ _ (page carved q) k refl (own q)
         (past _ _ (page virgin q) (digit z) refl refl

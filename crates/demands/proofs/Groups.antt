@@ -16,7 +16,7 @@ use Rattle.model.specs.Arena.{Arena, Given, given}
 use Rattle.model.specs.Class.{Ask, serve}
 use Rattle.model.specs.Heap.{Heap, offer}
 use Rattle.model.specs.History.{heapAfter}
-use Rattle.model.specs.Groups.{isBack, wentBack}
+use Rattle.model.specs.Groups.{isBack, groupsBack}
 use Rattle.model.proofs.Theorems as Model
 use Rattle.arena.specs.Load.{loadArena}
 use Rattle.vigbuso.specs.Blocks.{chunksOn}
@@ -32,7 +32,7 @@ use Rattle.demands.proofs.Gives.{class-given}
 use Rattle.demands.proofs.Starts.{as-opening}
 
 -- entries past the fates tell nothing
-past-fates : (gs vs : List ℕ) → wentBack gs (take (length gs) vs) ≡ wentBack gs vs
+past-fates : (gs vs : List ℕ) → groupsBack gs (take (length gs) vs) ≡ groupsBack gs vs
 past-fates [] vs = refl
 past-fates (g ∷ gs) [] = refl
 past-fates (g ∷ gs) (v ∷ vs) = by-cases (isBack v) (λ e. rw e (ap (λ (qs : List ℕ). pageOf g ∷ qs) (past-fates gs vs))) (λ e. rw e (past-fates gs vs))
@@ -63,13 +63,13 @@ module _ (n : ℕ) (rows b : List ℕ) (o : Opens n rows b) (xs : List Call) (c 
   unfolding call
   unrefused e = zero-exactly (chunksOn (bookAfter n rows b xs) c h ws gs fs .code) _ refl .1 (ap isRefused e)
 
-  chunks-give : next n rows b xs x .answer ≡ Calls.fates vs → GivenInTurn (shapeOf c .pages) (wentBack gs vs) (loadArena (bookAfter n rows b xs)) (loadArena (next n rows b xs x .book))
+  chunks-give : next n rows b xs x .answer ≡ Calls.fates vs → GivenInTurn (shapeOf c .pages) (groupsBack gs vs) (loadArena (bookAfter n rows b xs)) (loadArena (next n rows b xs x .book))
   chunks-give e =
       let z = unrefused e in
       let at-home : (a : Arena) → offer n h a q ≡ given a none false = λ a. offer-home n h a (shapeOf c .pages) (chunks-home (shapeOf c) (heap .rules c) (shapeOf c .pages) ⊥ (λ p. p) (heap .classes c) h ws gs fs) in
       let a = next-answer n rows b o xs x d named (next-host n rows b o xs x d named z) in
       let observed : serve q none .answer ≡ Calls.fates vs = sym (a ∙ ap (λ (g : Given). serve q (g .run) .answer) (at-home (heap .arena))) ∙ e in
-      let gives : serve q none .gives ≡ wentBack gs vs = Model.groups-give (shapeOf c) (heap .rules c) (heap .classes c) .gives h ws gs fs none ∙ rw observed (past-fates gs vs) in
+      let gives : serve q none .gives ≡ groupsBack gs vs = Model.groups-give (shapeOf c) (heap .rules c) (heap .classes c) .gives h ws gs fs none ∙ rw observed (past-fates gs vs) in
       rw (at-home (loadArena (bookAfter n rows b xs)), gives) at (class-given n rows b o xs x d named z)
 
 pub groups-give : (s : Start) → Starts.Starts s → (xs : List Call) → GroupsGive s xs

@@ -93,7 +93,7 @@ use Rattle.refinement.proofs.ArenaFrames.{isStep, committed-changes, grown-chan
 use Rattle.refinement.proofs.OpenRep.{ruled-changes}
 use Rattle.demands.specs.Call.{call}
 use Rattle.demands.specs.Start.{Start, opening, trace, pages, ruleRows, lent, Starts, calls, bookAfter}
-use Rattle.demands.specs.Marks.{isTake, LeftOrZero, MarksStay}
+use Rattle.demands.specs.Marks.{isTakeCall, LeftOrZero, MarksStay}
 use Rattle.demands.proofs.Calls.{room-plain, opens}
 use Rattle.demands.proofs.ChunkReturns.{small-paged}
 use Rattle.demands.proofs.Starts.{as-opening}
@@ -680,7 +680,7 @@ direct-turn : (b : List ℕ) (t : Bool) {A : Type 0} (f : A → List ℕ) (x y :
 direct-turn b true f x y e k = k
 direct-turn b false f x y e k = rw e (changes-none notMark b)
 
-others-keep : (b : List ℕ) (x : Call) → isTake x ≡ false → Keeps b (call b x .book)
+others-keep : (b : List ℕ) (x : Call) → isTakeCall x ≡ false → Keeps b (call b x .book)
 unfolding call commitOn growOn Direct.releaseOn
 others-keep b (Calls.takeBlocks c h l) t = absurd (true≢false t)
 others-keep b (Calls.mediumTakeBlocks c h l) t = absurd (true≢false t)
@@ -693,7 +693,7 @@ others-keep b (Calls.release h q m) t = direct-turn b (eqb (callFault b h) 0) (�
 others-keep b (Calls.contains o k) t = changes-none notMark b
 others-keep b Calls.report t = changes-none notMark b
 
-takes-clear : (b : List ℕ) (x : Call) → isTake x ≡ true → Clears b (call b x .book)
+takes-clear : (b : List ℕ) (x : Call) → isTakeCall x ≡ true → Clears b (call b x .book)
 unfolding call
 takes-clear b (Calls.takeBlocks c h l) t = take-leaves 0 64 (omega arith) b c h l
 takes-clear b (Calls.mediumTakeBlocks c h l) t = take-leaves 64 12 (omega arith) b c h l
@@ -707,7 +707,7 @@ takes-clear b (Calls.contains o k) t = absurd (false≢true t)
 takes-clear b Calls.report t = absurd (false≢true t)
 
 any-clears : (b : List ℕ) (x : Call) → Clears b (call b x .book)
-any-clears b x = by-cases (isTake x) (takes-clear b x) (λ t. keeps-clears (others-keep b x t))
+any-clears b x = by-cases (isTakeCall x) (takes-clear b x) (λ t. keeps-clears (others-keep b x t))
 
 -- ---- a history
 calls-clear : (xs : List Call) (b : List ℕ) → Clears b (bookFrom call b xs)

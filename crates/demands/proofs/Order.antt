@@ -7,7 +7,7 @@ use Rattle.rules.specs.Rules.{Rules}
 use Rattle.model.specs.declared.Hole.{Hole}
 use Rattle.model.specs.Calls.{Call, Answer}
 use Rattle.model.specs.Heap.{Heap, newHeap}
-use Rattle.model.specs.Order.{SameHeap, countless}
+use Rattle.model.specs.Order.{SameHeap, countsAside}
 use Rattle.model.specs.History.{Event, eventsFrom, heapFrom, heapAfter}
 use Rattle.model.proofs.Theorems as Model
 use Rattle.pool.proofs.OnHeap.{heap-append}
@@ -25,7 +25,7 @@ book-next b (y ∷ xs) x = book-next (call b y .book) xs x
 
 -- of a history that goes on: the answers, a report's three counts aside, and the runs
 abbrev answersAfter : ℕ → Heap → List Call → List Answer
-answersAfter n H zs = map (λ (e : Event). countless (e .answer)) (eventsFrom n H zs)
+answersAfter n H zs = map (λ (e : Event). countsAside (e .answer)) (eventsFrom n H zs)
 
 abbrev runsAfter : ℕ → Heap → List Call → List (Option Hole)
 runsAfter n H zs = map (λ (e : Event). e .run) (eventsFrom n H zs)
@@ -34,11 +34,11 @@ module _ (s : Start) (o : Starts s) where
   abbrev heap : List Call → Heap
   heap ys = heapAfter (pages s) (rules s) ys
 
-  answers-on : (zs xs : List Call) → map countless (answersIn (repliesFrom call (bookAfter s xs) zs)) ≡ answersAfter (pages s) (heap (calls s xs)) zs
+  answers-on : (zs xs : List Call) → map countsAside (answersIn (repliesFrom call (bookAfter s xs) zs)) ≡ answersAfter (pages s) (heap (calls s xs)) zs
   answers-on [] xs = refl
   answers-on (z ∷ zs) xs =
-      ap₂ (λ (a : Answer) (vs : List Answer). countless a ∷ vs) (next-agrees s o xs z .answer)
-      (ap (λ (d : List ℕ). map countless (answersIn (repliesFrom call d zs))) (sym (book-next (begun s) xs z))
+      ap₂ (λ (a : Answer) (vs : List Answer). countsAside a ∷ vs) (next-agrees s o xs z .answer)
+      (ap (λ (d : List ℕ). map countsAside (answersIn (repliesFrom call d zs))) (sym (book-next (begun s) xs z))
       ∙ answers-on zs (xs ++ z ∷ [])
       ∙ ap (λ (ys : List Call). answersAfter (pages s) (heap ys) zs) (sym (append-assoc (did s) xs (z ∷ [])))
       ∙ ap (λ (H : Heap). answersAfter (pages s) H zs) (heap-next (pages s) (newHeap (rules s)) (calls s xs) z))

@@ -92,16 +92,16 @@ module _ (sh : Shape) (lim : Limits) where
       (λ u. rw (t, u) y))
 
   -- a page with blocks out leaves the stores alone
-  record Beside (x : Site) : Type 0 where
+  record SiteIn (x : Site) : Type 0 where
     rest : In (x .without)
     put : (p : Page) → In (x .with p)
 
-  beside : {t : Page → Bool} {s : Class} {x : Site} → In s → Located t s (some x) → Beside x
+  site-in : {t : Page → Bool} {s : Class} {x : Site} → In s → Located t s (some x) → SiteIn x
   unfolding inPartial inFull
-  beside y (inList f k) = record { rest = record { empty = y .empty; cold = y .cold; pages = y .pages }; put = λ p. record { empty = y .empty; cold = y .cold; pages = y .pages } }
-  beside y (inNone f k) = record { rest = record { empty = y .empty; cold = y .cold; pages = y .pages }; put = λ p. record { empty = y .empty; cold = y .cold; pages = y .pages } }
+  site-in y (inList f k) = record { rest = record { empty = y .empty; cold = y .cold; pages = y .pages }; put = λ p. record { empty = y .empty; cold = y .cold; pages = y .pages } }
+  site-in y (inNone f k) = record { rest = record { empty = y .empty; cold = y .cold; pages = y .pages }; put = λ p. record { empty = y .empty; cold = y .cold; pages = y .pages } }
 
-  settle-keeps : (h : ℕ) (retires : Bool) (ws : List ℕ) (x : Site) → Beside x → In (settle sh lim h retires ws x .class)
+  settle-keeps : (h : ℕ) (retires : Bool) (ws : List ℕ) (x : Site) → SiteIn x → In (settle sh lim h retires ws x .class)
   unfolding settle
   settle-keeps h retires ws x y =
       by-cases (noneOut sh (returned ws (x .page)))
@@ -116,7 +116,7 @@ module _ (sh : Shape) (lim : Limits) where
   unfolding onPage
   page-keeps h s ws y none l = over y
   page-keeps h s ws y (some x) l =
-      by-cases (every (λ w. isOut sh w (x .page)) ws) (λ t. rw t (over (settle-keeps h false ws x (beside y l)))) (λ t. rw t (over y))
+      by-cases (every (λ w. isOut sh w (x .page)) ws) (λ t. rw t (over (settle-keeps h false ws x (site-in y l)))) (λ t. rw t (over y))
 
   first-keeps : (h : ℕ) (s : Class) (ws : List ℕ) → In s → Keeps (onPage sh lim h s ws (siteOfFirst sh s ws))
   unfolding onPage
@@ -126,7 +126,7 @@ module _ (sh : Shape) (lim : Limits) where
   chunk-keeps : (h : ℕ) {t : Page → Bool} (s : Class) (ws : List ℕ) → In s → (o : Option Site) → Located t s o → In (settleChunk sh lim h s ws o .class)
   unfolding settleChunk
   chunk-keeps h s ws y none l = y
-  chunk-keeps h s ws y (some x) l = settle-keeps h true _ x (beside y l)
+  chunk-keeps h s ws y (some x) l = settle-keeps h true _ x (site-in y l)
 
   chunks-keep : (h : ℕ) (ws : List ℕ) (s : Class) (gs : List ℕ) → In s → In (settleChunks sh lim h ws s gs .class)
   unfolding settleChunks

@@ -26,7 +26,7 @@ use Rattle.pages.specs.Stack.{pageAt}
 use Rattle.calls.specs.Out.{startOf, inRunOf, outAt}
 use Rattle.trace.specs.Words.{ownerAt}
 use Rattle.refinement.proofs.ArenaHolders.{names-below}
-use Rattle.pool.specs.Stock.{stockRoom}
+use Rattle.pool.specs.Stock.{countMax}
 use Rattle.poolcalls.specs.Stock.{countIn, stockFrom, stockIn}
 use Rattle.poolcalls.specs.Calls.{countValid, stockedIn}
 use Rattle.poolrefinement.specs.way.Represents.{StockRep}
@@ -92,9 +92,9 @@ module _ (n : ℕ) (b : List ℕ) (c : ℕ) (st : List ℕ) (r : StockRep n b c 
   count-length zero = refl
   count-length (suc m) = ap suc (count-length m)
 
-  pub few-rep : length (stockIn b c) ≤ stockRoom
+  pub few-rep : length (stockIn b c) ≤ countMax
   few-rep = rw (count-length (countIn b c)) (r .few)
 
   pub stocked-rep : admits b c ≡ true → stockedOn b c ≡ length (stockIn b c)
   unfolding stockedOn stockedIn countValid
-  stocked-rep ok = rw (ok, le-leb (countIn b c) stockRoom (r .few)) (sym (count-length (countIn b c)))
+  stocked-rep ok = rw (ok, le-leb (countIn b c) countMax (r .few)) (sym (count-length (countIn b c)))

@@ -228,7 +228,7 @@ module _ (n : ℕ) (rows b : List ℕ) (o : Opens n rows b) (xs : List PoolCall)
         trims = trim-answers;
         made-done = on-heap n few (rulesOf rows) xs .done;
         numbers = λ c x k e. unchanged n few (rulesOf rows) xs c x .low k (sym (answer-is c x) ∙ e);
-        valid = λ y e. call-whole n few (rulesOf rows) made d heap (callBy y) .valid (ap (λ r. r .code) (sym (call-reply (callBy y))) ∙ e);
+        direct-valid = λ y e. call-whole n few (rulesOf rows) made d heap (callBy y) .valid (ap (λ r. r .code) (sym (call-reply (callBy y))) ∙ e);
         out = λ c w hc k. (
           (λ e. elim (cons .out c w .0 (sym (out-test c w hc k) ∙ e)) [ inl u ↦ inl (out-in c w u) | inr s ↦ inr (ap (elem w) (stock-is c hc) ∙ s) ]),
           (λ e. out-test c w hc k ∙ cons .out c w .1 (elim e [ inl u ↦ inl (in-out c w u) | inr s ↦ inr (sym (ap (elem w) (stock-is c hc)) ∙ s) ])),

@@ -100,15 +100,15 @@ turns w h = elim (kinds w h) [
   | inr e ↦ (let k : kindOf (w + 2 ^ kindBits) ≡ 3 = omega arith in record { gone = rw (e, k); again = rw (e, k) (omega arith); same = rw e })
 ]
 
-pub out-mark : (p : ℕ) (hs : List Handed) → All (λ (h : Handed). Block (h .entry)) hs → Words.outAt p (map listedWord hs) ≡ outAt p hs
-out-mark p [] a = refl
-out-mark zero (h ∷ hs) a = by-cases (h .back) (λ b. rw (b, turns (wordOf h) (a .0) .gone)) (λ b. rw (b, a .0))
-out-mark (suc p) (h ∷ hs) a = out-mark p hs (a .1)
+pub out-listed : (p : ℕ) (hs : List Handed) → All (λ (h : Handed). Block (h .entry)) hs → Words.outAt p (map listedWord hs) ≡ outAt p hs
+out-listed p [] a = refl
+out-listed zero (h ∷ hs) a = by-cases (h .back) (λ b. rw (b, turns (wordOf h) (a .0) .gone)) (λ b. rw (b, a .0))
+out-listed (suc p) (h ∷ hs) a = out-listed p hs (a .1)
 
-pub back-mark : (p : ℕ) (hs : List Handed) → outAt p hs ≡ true → Words.backAt p (map listedWord hs) ≡ map listedWord (backAt p hs)
-back-mark p [] o = absurd (false≢true o)
-back-mark zero (h ∷ hs) o = by-cases (h .back) (λ b. absurd (false≢true (rw b at o))) (λ b. rw b)
-back-mark (suc p) (h ∷ hs) o = ap (λ (s : List ℕ). listedWord h ∷ s) (back-mark p hs o)
+pub back-listed : (p : ℕ) (hs : List Handed) → outAt p hs ≡ true → Words.backAt p (map listedWord hs) ≡ map listedWord (backAt p hs)
+back-listed p [] o = absurd (false≢true o)
+back-listed zero (h ∷ hs) o = by-cases (h .back) (λ b. absurd (false≢true (rw b at o))) (λ b. rw b)
+back-listed (suc p) (h ∷ hs) o = ap (λ (s : List ℕ). listedWord h ∷ s) (back-listed p hs o)
 
 pub restored-listed : (hs : List Handed) → All (λ (h : Handed). Block (h .entry)) hs → map restoreKind (map listedWord hs) ≡ map wordOf hs
 restored-listed [] a = refl

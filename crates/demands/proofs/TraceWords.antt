@@ -39,7 +39,7 @@ use Rattle.demands.proofs.Calls.{room}
 use Rattle.demands.proofs.Histories.{run-calls}
 use Rattle.demands.proofs.TraceLive.{live, live-next, none-released, still-append, still-back, live-single, live-bytes, at-still, keeps, Single}
 use Rattle.demands.proofs.TraceSteps.{names-take, names-back, take-step, back-step, report-is}
-use Rattle.demands.proofs.TraceListed.{listedWord, wordOf, Block, listed-more, words-more, out-more, bytes-more, entries-length, all-more, all-behind, all-then, all-back, more-class, bytes-still, out-mark, back-mark, back-words, entry, all-at, placed}
+use Rattle.demands.proofs.TraceListed.{listedWord, wordOf, Block, listed-more, words-more, out-more, bytes-more, entries-length, all-more, all-behind, all-then, all-back, more-class, bytes-still, out-listed, back-listed, back-words, entry, all-at, placed}
 
 -- ---- what a word says names a class of ours
 abbrev Fine : Say → Type 0
@@ -188,10 +188,10 @@ module _ (n : ℕ) (b : List ℕ) (o : Opens n [] b) where
           let s = back-step n b o xs it it-known it-live in
           let i = placed p hs out in
           let y : total bytesOf hs - sizeOf (Words.classAt n (bookAfter n [] b xs) (it .word)) ≡ total bytesOf (backAt p hs) = ap (λ (c : ℕ). total bytesOf hs - sizeOf c) (s .class) ∙ sym (i .bytes) in
-          rw (i .word, i .call) (going-eq (sym (s .left)) (rw (i .word) at (back-mark p hs out)) refl (sym (i .out)) y (ap (max (r .highest)) y))
+          rw (i .word, i .call) (going-eq (sym (s .left)) (rw (i .word) at (back-listed p hs out)) refl (sym (i .out)) y (ap (max (r .highest)) y))
 
       back-goes : Words.stopsAs n (record { blocks = 0; figures = 0 }) (standing r) (Trace.back p) ≡ false
-      back-goes = rw (out-mark p hs (good .kinds), out, placed p hs out .word, back-step n b o xs it it-known it-live .code)
+      back-goes = rw (out-listed p hs (good .kinds), out, placed p hs out .word, back-step n b o xs it it-known it-live .code)
 
       back-good : Good (does n r (Trace.back p))
       back-good =
@@ -222,7 +222,7 @@ module _ (n : ℕ) (b : List ℕ) (o : Opens n [] b) where
     stops-is m (Trace.back p) h =
         by-cases (outAt p hs)
         (λ e. rw e (back-goes p e))
-        (λ e. rw (out-mark p hs (good .kinds), e))
+        (λ e. rw (out-listed p hs (good .kinds), e))
     stops-is m Trace.report h = report-stops m
     stops-is m Trace.wrong h = refl
 

@@ -13,25 +13,25 @@ use Rattle.vigbuso.specs.Direct.{openOn}
 use Rattle.demands.specs.Call.{call}
 use Rattle.demands.specs.Start.{Start, lent, bookAfter}
 
-abbrev pub isTake : Call → Bool
-isTake (Calls.takeBlocks c h l) = true
-isTake (Calls.mediumTakeBlocks c h l) = true
-isTake (Calls.releaseBlocks c h ws) = false
-isTake (Calls.mediumReleaseBlocks c h ws) = false
-isTake (Calls.releaseBinChunks c h ws gs fs) = false
-isTake (Calls.commit h n) = false
-isTake (Calls.growFrontier h q old new) = false
-isTake (Calls.release h q n) = false
-isTake (Calls.contains o b) = false
-isTake Calls.report = false
+abbrev pub isTakeCall : Call → Bool
+isTakeCall (Calls.takeBlocks c h l) = true
+isTakeCall (Calls.mediumTakeBlocks c h l) = true
+isTakeCall (Calls.releaseBlocks c h ws) = false
+isTakeCall (Calls.mediumReleaseBlocks c h ws) = false
+isTakeCall (Calls.releaseBinChunks c h ws gs fs) = false
+isTakeCall (Calls.commit h n) = false
+isTakeCall (Calls.growFrontier h q old new) = false
+isTakeCall (Calls.release h q n) = false
+isTakeCall (Calls.contains o b) = false
+isTakeCall Calls.report = false
 
 -- word j of the marks of page p, of which a page has 128
 abbrev pub LeftOrZero : List ℕ → List ℕ → ℕ → ℕ → Type 0
 LeftOrZero b b′ p j = (get b′ (mark p j) ≡ get b (mark p j)) ⊎ (get b′ (mark p j) ≡ 0)
 
 pub record MarksStay : Type 0 where
-  pub others : (b : List ℕ) (x : Call) → isTake x ≡ false → (p j : ℕ) → j < 128 → get (call b x .book) (mark p j) ≡ get b (mark p j)
-  pub takes : (b : List ℕ) (x : Call) → isTake x ≡ true → (p j : ℕ) → j < 128 → LeftOrZero b (call b x .book) p j
+  pub others : (b : List ℕ) (x : Call) → isTakeCall x ≡ false → (p j : ℕ) → j < 128 → get (call b x .book) (mark p j) ≡ get b (mark p j)
+  pub takes : (b : List ℕ) (x : Call) → isTakeCall x ≡ true → (p j : ℕ) → j < 128 → LeftOrZero b (call b x .book) p j
   -- an opening leaves each
   pub opens : (n : ℕ) (rows b : List ℕ) (p j : ℕ) → j < 128 → get (openOn b n rows .book) (mark p j) ≡ get b (mark p j)
   -- so after an opening or a trace, refused or not, and any calls each word of marks of each page, also of one that is no class's, is 0 or as it was lent

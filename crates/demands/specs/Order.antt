@@ -3,7 +3,7 @@
 use mathlib.Core.List.{List, _++_, map}
 use mathlib.Core.Path.{_≡_}
 use Rattle.model.specs.Calls.{Call}
-use Rattle.model.specs.Order.{SameHeap, countless}
+use Rattle.model.specs.Order.{SameHeap, countsAside}
 use Rattle.model.specs.History.{heapAfter, eventsFrom}
 use Rattle.refinement.specs.Run.{repliesFrom, answersIn}
 use Rattle.demands.specs.Call.{call}
@@ -13,7 +13,7 @@ use Rattle.demands.specs.Start.{Start, pages, rules, Starts, calls, book
 -- and in the three counts alone: all further calls zs are answered alike but for these counts in a report, with the same runs, and the heaps go
 -- on differing in these alone
 pub record SameAfter (s₁ s₂ : Start) (xs ys zs : List Call) : Type 0 where
-  pub alike : map countless (answersIn (repliesFrom call (bookAfter s₁ xs) zs)) ≡ map countless (answersIn (repliesFrom call (bookAfter s₂ ys) zs))
+  pub alike : map countsAside (answersIn (repliesFrom call (bookAfter s₁ xs) zs)) ≡ map countsAside (answersIn (repliesFrom call (bookAfter s₂ ys) zs))
   pub runs : map (λ v. v .run) (eventsFrom (pages s₁) (heapAfter (pages s₁) (rules s₁) (calls s₁ xs)) zs) ≡ map (λ v. v .run) (eventsFrom (pages s₂) (heapAfter (pages s₂) (rules s₂) (calls s₂ ys)) zs)
   pub stays : SameHeap (heapAfter (pages s₁) (rules s₁) (calls s₁ (xs ++ zs))) (heapAfter (pages s₂) (rules s₂) (calls s₂ (ys ++ zs)))
 

@@ -25,7 +25,7 @@ use Rattle.model.specs.Offered.{Spent}
 use Rattle.model.specs.Demands.{Disjoint}
 use Rattle.arena.specs.Load.{loadArena}
 use Rattle.calls.specs.Out.{outAt}
-use Rattle.pool.specs.Stock.{stockRoom}
+use Rattle.pool.specs.Stock.{countMax}
 use Rattle.pool.specs.Pool.{PoolCall, PoolAnswer, PoolRequest, Direct, to, direct, alloc, free, trim, hostIn, callBy, answered, refused, granted, trimmed, noBlock, freed}
 use Rattle.pool.specs.Observed.{PoolEvent, observedOf, poolEvents, heapCalls, poolCallsOf, poolAnswersOf, poolRunsOf}
 use Rattle.poolcalls.specs.Stock.{stockIn}
@@ -96,7 +96,7 @@ pub record PoolAt (n : ℕ) (rows d : List ℕ) (vs : List Event) (made : List C
   pub made-done : All (λ v. isSome (names (v .call)) ≡ true → isRefused (v .answer) ≡ false) (events n (rulesOf rows) made)
   -- a call that is refused has number 3, 4, 9 or 10 (and leaves the book, as specs/PoolRefusals says of every book); 13 never answers, a direct call neither
   pub numbers : (c : ℕ) (x : PoolRequest) (k : ℕ) → poolOn d c x .answer ≡ refused k → elem k (3 ∷ 4 ∷ 9 ∷ 10 ∷ []) ≡ true
-  pub valid : (y : Direct) → call d (callBy y) .code ≡ 13 → ⊥
+  pub direct-valid : (y : Direct) → call d (callBy y) .code ≡ 13 → ⊥
   -- a block out at the heap is granted or in stock, and each of these once
   pub out : (c w : ℕ) → ltb c classCount ≡ true → ofKind (shapeOf c .kind) w ≡ true
       → (outAt n d c (shapeOf c) w ≡ true) ↔ (OutIn vs c w ⊎ (elem w (stockIn d c) ≡ true))
@@ -106,8 +106,8 @@ pub record PoolAt (n : ℕ) (rows d : List ℕ) (vs : List Event) (made : List C
   pub granted : (c w : ℕ) → (grantedOn d c w ≡ true) ↔ OutIn vs c w
   pub class : (c w : ℕ) → OutIn vs c w → classOn d w ≡ c
   pub stocked : (c : ℕ) → ltb c classCount ≡ true → stockedOn d c ≡ length (stockIn d c)
-  -- no stock holds more than its room
-  pub few : (c : ℕ) → ltb c classCount ≡ true → length (stockIn d c) ≤ stockRoom
+  -- no stock holds more than COUNT can say
+  pub few : (c : ℕ) → ltb c classCount ≡ true → length (stockIn d c) ≤ countMax
 
 pub record PoolDemand : Type 0 where
   pub after : (n : ℕ) (rows b : List ℕ) → Opens n rows b → (xs : List PoolCall) → PoolAt n rows (poolBook n rows b xs) (poolObserved n rows b xs) (heapCalls n (rulesOf rows) xs)

@@ -14,7 +14,7 @@ use Rattle.facts.specs.Lists.{every}
 use Rattle.fields.specs.Field.{ArenaField, Field, arena, mark, class, hole, page, slot, size, state, frontier, holes, holePages, held, start, pages, partial, empty, emptyCount, cold, coldCount, owner, first, next, prev, free, carved, listed, virgin, get, emptyLimit, coldLimit}
 use Rattle.fields.specs.Ranges.{maxParked, Range, anyValue, upTo, between, exactly, below, endsBy, runsTo, within}
 use Rattle.model.specs.HoleStore.{holeSlots, holePagesMax}
-use Rattle.pool.specs.Stock.{stockRoom}
+use Rattle.pool.specs.Stock.{countMax}
 use Rattle.poolcalls.specs.Stock.{countIn, entryIn}
 
 -- ---- the words that hold a page's code, which is page + 1, and 0 for none: of class c, or of page p
@@ -144,7 +144,7 @@ range b (freeWith p m) = endsBy m (get b (page carved p))
 range b (listedFlag p) = upTo 1
 range b (carvedFits p capacity) = upTo capacity
 range b (virginFlag p) = upTo 1
-range b (stockFew c) = upTo stockRoom
+range b (stockFew c) = upTo countMax
 range b (entryLow c k) = below (4096 * get b (arena size))
 
 abbrev pub inRange : List ℕ → Use → Bool

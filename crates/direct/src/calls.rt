@@ -1,8 +1,8 @@
 // The direct calls, from number 6 on: the book is long enough for an arena of `size` pages.
 use super::Grow;
 use arena::DIRECT;
+use runs::ArenaRequest;
 use runs::Commit;
-use runs::Request;
 use runs::give;
 use runs::growth;
 use runs::load;
@@ -82,7 +82,7 @@ fn grow_held(meta: &mut [u32], size: u32, host: u32, end: u32, pages: u32) -> Gr
         return Grow::Refused(13);
     }
     let a = load::load_record(meta);
-    let q = Request {
+    let q = ArenaRequest {
         size,
         pages,
         host,

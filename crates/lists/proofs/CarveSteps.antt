@@ -16,19 +16,19 @@ use Rattle.fields.proofs.Clear.{length-clear, clear-more, marks-past-out}
 use Rattle.words.proofs.Answers.{byte-digit}
 use Rattle.pages.specs.Runs.{nameRun}
 use Rattle.pages.specs.Stack.{descending, push}
-use Rattle.pages.specs.way.Pre.{StockPre, CarvePre, ClearPre}
-use Rattle.pages.specs.Carve.{stocked, carveAnew, bareBits, bareRun, newRun}
+use Rattle.pages.specs.way.Pre.{PushRangePre, CarvePre, ClearPre}
+use Rattle.pages.specs.Carve.{carvedAtOnce, carveAnew, bareBits, bareRun, newRun}
 use Rattle.pages.proofs.Descending.{length-descending}
-use Rattle.pages.proofs.Frames.{stocked-le}
+use Rattle.pages.proofs.Frames.{at-once-few}
 
 -- ---- blocks pushed on the stack
-pub record StockInv (b₀ : List ℕ) (q k : ℕ) (b : List ℕ) (i : ℕ) : Type 0 where
+pub record PushRangeInv (b₀ : List ℕ) (q k : ℕ) (b : List ℕ) (i : ℕ) : Type 0 where
   pub within : i ≤ k
   pub long : length b ≡ length b₀
   pub done : b ≡ push b₀ q 0 (descending 0 i)
 
-stock-again : (b₀ : List ℕ) (q k : ℕ) (b b′ : List ℕ) (i : ℕ) → i < k → StockInv b₀ q k b i → b′ ≡ put b (slot q i) i → StockInv b₀ q k b′ (i + 1)
-stock-again b₀ q k b b′ i h v e =
+push-range-again : (b₀ : List ℕ) (q k : ℕ) (b b′ : List ℕ) (i : ℕ) → i < k → PushRangeInv b₀ q k b i → b′ ≡ put b (slot q i) i → PushRangeInv b₀ q k b′ (i + 1)
+push-range-again b₀ q k b b′ i h v e =
     record {
       within = omega arith;
       long = rw e (length-put b (slot q i) i ∙ v .long);
@@ -38,21 +38,21 @@ stock-again b₀ q k b b′ i h v e =
     same-put : (b : List ℕ) (i j v w : ℕ) → i ≡ j → v ≡ w → put b (slot q i) v ≡ put b (slot q j) w
     same-put b i j v w e f = cc
 
-stock-done : (b₀ : List ℕ) (q k : ℕ) (b : List ℕ) (i : ℕ) → k ≤ i → StockInv b₀ q k b i → b ≡ push b₀ q 0 (descending 0 k)
-stock-done b₀ q k b i h v = let e : i ≡ k = omega (arith, v .within) in v .done ∙ ap (λ z. push b₀ q 0 (descending 0 z)) e
+push-range-done : (b₀ : List ℕ) (q k : ℕ) (b : List ℕ) (i : ℕ) → k ≤ i → PushRangeInv b₀ q k b i → b ≡ push b₀ q 0 (descending 0 k)
+push-range-done b₀ q k b i h v = let e : i ≡ k = omega (arith, v .within) in v .done ∙ ap (λ z. push b₀ q 0 (descending 0 z)) e
 
-module _ (b₀ : List ℕ) (q k : ℕ) (b : List ℕ) (x : ℕ) (v : StockInv b₀ q k b (2 * x)) where
-  pub stock-pair : (b′ : List ℕ) → 2 * x + 1 < k → b′ ≡ put (put b (slot q (2 * x)) (2 * x)) (slot q (2 * x + 1)) (2 * x + 1) → StockInv b₀ q k b′ (2 * (x + 1))
-  stock-pair b′ h e =
-      let w = stock-again b₀ q k b (put b (slot q (2 * x)) (2 * x)) (2 * x) (omega arith) v refl in
+module _ (b₀ : List ℕ) (q k : ℕ) (b : List ℕ) (x : ℕ) (v : PushRangeInv b₀ q k b (2 * x)) where
+  pub push-range-pair : (b′ : List ℕ) → 2 * x + 1 < k → b′ ≡ put (put b (slot q (2 * x)) (2 * x)) (slot q (2 * x + 1)) (2 * x + 1) → PushRangeInv b₀ q k b′ (2 * (x + 1))
+  push-range-pair b′ h e =
+      let w = push-range-again b₀ q k b (put b (slot q (2 * x)) (2 * x)) (2 * x) (omega arith) v refl in
       let n : 2 * x + 1 + 1 ≡ 2 * (x + 1) = omega arith in
-      rw n at (stock-again b₀ q k (put b (slot q (2 * x)) (2 * x)) b′ (2 * x + 1) h w e)
+      rw n at (push-range-again b₀ q k (put b (slot q (2 * x)) (2 * x)) b′ (2 * x + 1) h w e)
 
-  pub stock-last : (b′ : List ℕ) → k ≤ 2 * x + 1 → 2 * x < k → b′ ≡ put b (slot q (2 * x)) (2 * x) → b′ ≡ push b₀ q 0 (descending 0 k)
-  stock-last b′ l h e = stock-done b₀ q k b′ (2 * x + 1) l (stock-again b₀ q k b b′ (2 * x) h v e)
+  pub push-range-last : (b′ : List ℕ) → k ≤ 2 * x + 1 → 2 * x < k → b′ ≡ put b (slot q (2 * x)) (2 * x) → b′ ≡ push b₀ q 0 (descending 0 k)
+  push-range-last b′ l h e = push-range-done b₀ q k b′ (2 * x + 1) l (push-range-again b₀ q k b b′ (2 * x) h v e)
 
-  pub stock-all : k ≤ 2 * x → b ≡ push b₀ q 0 (descending 0 k)
-  stock-all h = stock-done b₀ q k b (2 * x) h v
+  pub push-range-all : k ≤ 2 * x → b ≡ push b₀ q 0 (descending 0 k)
+  push-range-all h = push-range-done b₀ q k b (2 * x) h v
 
 -- ---- words of out bits and of marks
 pub record ClearInv (b₀ : List ℕ) (q k : ℕ) (b : List ℕ) (i : ℕ) : Type 0 where
@@ -97,16 +97,16 @@ pub clear-done : (b₀ : List ℕ) (q k : ℕ) (b : List ℕ) (i : ℕ) → k �
 clear-done b₀ q k b i h v = let e : i ≡ k = omega (arith, v .within) in v .done ∙ ap (λ z. bareBits b₀ q z) e
 
 -- ---- a run
-pub stocked-all : (sh : Shape) → sh .kind ≡ 2 → sh .capacity ≡ stocked sh
-stocked-all sh h = rw (eq-eqb (sh .kind) 2 h)
+pub at-once-all : (sh : Shape) → sh .kind ≡ 2 → sh .capacity ≡ carvedAtOnce sh
+at-once-all sh h = rw (eq-eqb (sh .kind) 2 h)
 
-pub stocked-none : (sh : Shape) → (sh .kind ≡ 2 → ⊥) → 0 ≡ stocked sh
-stocked-none sh h = rw (ne-eqb (sh .kind) 2 h)
+pub at-once-none : (sh : Shape) → (sh .kind ≡ 2 → ⊥) → 0 ≡ carvedAtOnce sh
+at-once-none sh h = rw (ne-eqb (sh .kind) 2 h)
 
-pub stock-pre : (b : List ℕ) (sh : Shape) (q k : ℕ) → CarvePre b sh q → k ≡ stocked sh → StockPre b q k
-stock-pre b sh q k h e = record { few = stocked-le sh k e (h .few); there = h .there }
+pub push-range-pre : (b : List ℕ) (sh : Shape) (q k : ℕ) → CarvePre b sh q → k ≡ carvedAtOnce sh → PushRangePre b q k
+push-range-pre b sh q k h e = record { few = at-once-few sh k e (h .few); there = h .there }
 
-pub carve-done : (b : List ℕ) (sh : Shape) (q : ℕ) (v : Bool) (k : ℕ) (b₁ b₂ b₃ b₄ : List ℕ) → k ≡ stocked sh → b₁ ≡ push b q 0 (descending 0 k) → b₂ ≡ put b₁ (page virgin q) (boolByte v) → b₃ ≡ put b₂ (page carved q) k → b₄ ≡ put b₃ (page free q) k → b₄ ≡ carveAnew b sh q v
+pub carve-done : (b : List ℕ) (sh : Shape) (q : ℕ) (v : Bool) (k : ℕ) (b₁ b₂ b₃ b₄ : List ℕ) → k ≡ carvedAtOnce sh → b₁ ≡ push b q 0 (descending 0 k) → b₂ ≡ put b₁ (page virgin q) (boolByte v) → b₃ ≡ put b₂ (page carved q) k → b₄ ≡ put b₃ (page free q) k → b₄ ≡ carveAnew b sh q v
 unfolding carveAnew
 carve-done b sh q v k b₁ b₂ b₃ b₄ e e₁ e₂ e₃ e₄ = rw (e₄, e₃, e₂, e₁, byte-digit v, e)
 

@@ -1,15 +1,15 @@
 // Carving a run, and a run that the arena gave.
 ghost use mathlib.Core.Path.{_≡_};
 ghost use Rattle.pages.specs.Stack.{descending, push};
-ghost use Rattle.pages.specs.Carve.{stocked, carveAnew, bareBits, newRun};
-ghost use Rattle.pages.specs.way.Pre.{StockPre, CarvePre, ClearPre, NewPre};
+ghost use Rattle.pages.specs.Carve.{carvedAtOnce, carveAnew, bareBits, newRun};
+ghost use Rattle.pages.specs.way.Pre.{PushRangePre, CarvePre, ClearPre, NewPre};
 use crate::runs::name_run;
 use classes::Shape;
 use words::Word;
 
 // Blocks 0 to k - 1 lie on the page's stack, the highest on top: two a turn, which are one word.
-fn stock(meta: &mut [u32], q: u32, k: u32)
-    requires { ⌜ StockPre (now meta) q k ⌝ }
+fn push_range(meta: &mut [u32], q: u32, k: u32)
+    requires { ⌜ PushRangePre (now meta) q k ⌝ }
     ensures { λ _. ⌜ now (meta .exit) ≡ push (now (meta .entry)) q 0 (descending 0 k) ⌝ }
 {
     let mut x = 0;
@@ -22,8 +22,8 @@ fn stock(meta: &mut [u32], q: u32, k: u32)
     }
 }
 
-fn stocked(shape: Shape) -> u32
-    ensures { λ r. ⌜ r ≡ stocked shape ⌝ }
+fn carved_at_once(shape: Shape) -> u32
+    ensures { λ r. ⌜ r ≡ carvedAtOnce shape ⌝ }
 {
     if shape.kind == Word::MEDIUM {
         shape.capacity
@@ -37,8 +37,8 @@ pub fn carve_anew(meta: &mut [u32], shape: Shape, q: u32, virgin: bool)
     requires { ⌜ CarvePre (now meta) shape q ⌝ }
     ensures { λ _. ⌜ now (meta .exit) ≡ carveAnew (now (meta .entry)) shape q virgin ⌝ }
 {
-    let k = stocked(shape);
-    stock(meta, q, k);
+    let k = carved_at_once(shape);
+    push_range(meta, q, k);
     fields::page::set_virgin(meta, q, virgin as u32);
     fields::page::set_carved(meta, q, k);
     fields::page::set_free(meta, q, k);

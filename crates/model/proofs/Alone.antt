@@ -27,39 +27,39 @@ use Rattle.model.proofs.Update.{update-same, update-other}
 use Rattle.model.proofs.NewRun.{Tells, run-tells}
 
 -- a request of a class is done, or asks for one of its runs and tells in its answer which it was given
-pub data Shows (sh : Shape) : Ask → Type 0 where
-  is-done : {r : Result} → Shows sh (done r)
-  is-asked : {k : Option ℕ → Result} → Tells k → Shows sh (asks (sh .pages) k)
+pub data TellsRun (sh : Shape) : Ask → Type 0 where
+  is-done : {r : Result} → TellsRun sh (done r)
+  is-asked : {k : Option ℕ → Result} → Tells k → TellsRun sh (asks (sh .pages) k)
 
-shows-cond : (sh : Shape) (b : Bool) (x y : Ask) → Shows sh x → Shows sh y → Shows sh (cond b x y)
-shows-cond sh true x y p q = p
-shows-cond sh false x y p q = q
+tells-run-cond : (sh : Shape) (b : Bool) (x y : Ask) → TellsRun sh x → TellsRun sh y → TellsRun sh (cond b x y)
+tells-run-cond sh true x y p q = p
+tells-run-cond sh false x y p q = q
 
 module _ (sh : Shape) (ok : Sound sh) (lim : Limits) where
-  take-shows : (l : List ℕ) (ps es : List Page) (cs : List Cold) (fs : List Page) → Shows sh (takeFrom sh l ps es cs fs)
+  take-tells-run : (l : List ℕ) (ps es : List Page) (cs : List Cold) (fs : List Page) → TellsRun sh (takeFrom sh l ps es cs fs)
   unfolding takeFrom
-  take-shows l (p ∷ ps) es cs fs = is-done
-  take-shows l [] (e ∷ es) cs fs = is-done
-  take-shows l [] [] (c ∷ cs) fs = is-done
-  take-shows l [] [] [] fs = is-asked (run-tells sh ok l fs)
+  take-tells-run l (p ∷ ps) es cs fs = is-done
+  take-tells-run l [] (e ∷ es) cs fs = is-done
+  take-tells-run l [] [] (c ∷ cs) fs = is-done
+  take-tells-run l [] [] [] fs = is-asked (run-tells sh ok l fs)
 
-  page-shows : (h : ℕ) (s : Class) (ws : List ℕ) (x : Option Site) → Shows sh (onPage sh lim h s ws x)
+  page-tells-run : (h : ℕ) (s : Class) (ws : List ℕ) (x : Option Site) → TellsRun sh (onPage sh lim h s ws x)
   unfolding onPage
-  page-shows h s ws none = is-done
-  page-shows h s ws (some x) = search (shows-cond, is-done)
+  page-tells-run h s ws none = is-done
+  page-tells-run h s ws (some x) = search (tells-run-cond, is-done)
 
-  pub answer-shows : (s : Class) (r : Request) → Shows sh (answer sh lim s r)
+  pub answer-tells-run : (s : Class) (r : Request) → TellsRun sh (answer sh lim s r)
   unfolding answer releaseList releaseChunks
-  answer-shows s (Calls.take h l) = search (shows-cond, is-done, take-shows)
-  answer-shows s (Calls.giveBack h ws) = search (shows-cond, is-done, page-shows)
-  answer-shows s (Calls.giveChunks h ws gs fs) = search (shows-cond, is-done) depth 9
+  answer-tells-run s (Calls.take h l) = search (tells-run-cond, is-done, take-tells-run)
+  answer-tells-run s (Calls.giveBack h ws) = search (tells-run-cond, is-done, page-tells-run)
+  answer-tells-run s (Calls.giveChunks h ws gs fs) = search (tells-run-cond, is-done) depth 9
 
 -- a call that does not ask is given none
 abbrev pub Fits : Ask → Option ℕ → Type 0
 Fits (done r) g = g ≡ none
 Fits (asks n k) g = Unit {0}
 
-serve-tells : {sh : Shape} {q : Ask} (g g′ : Option ℕ) → Shows sh q → Fits q g → Fits q g′ → serve q g .answer ≡ serve q g′ .answer → g ≡ g′
+serve-tells : {sh : Shape} {q : Ask} (g g′ : Option ℕ) → TellsRun sh q → Fits q g → Fits q g′ → serve q g .answer ≡ serve q g′ .answer → g ≡ g′
 serve-tells g g′ is-done f f′ e = f ∙ sym f′
 serve-tells g g′ (is-asked s) f f′ e = s g g′ e
 
@@ -83,10 +83,10 @@ AllFit lim c s [] gs = gs ≡ []
 AllFit lim c s (x ∷ xs) [] = ⊥
 AllFit lim c s (x ∷ xs) (g ∷ gs) = Fits (ask lim c s (wayOf x)) g × AllFit lim c (reply lim c s x g .class) xs gs
 
-ask-shows : (lim : Limits) (c : ℕ) (s : Class) (w : Way) → Shows (shapeOf c) (ask lim c s w)
-ask-shows lim c s turned = is-done
-ask-shows lim c s straight = is-done
-ask-shows lim c s (toClass d) = answer-shows (shapeOf c) (shape-sound c) lim s (d .request)
+ask-tells-run : (lim : Limits) (c : ℕ) (s : Class) (w : Way) → TellsRun (shapeOf c) (ask lim c s w)
+ask-tells-run lim c s turned = is-done
+ask-tells-run lim c s straight = is-done
+ask-tells-run lim c s (toClass d) = answer-tells-run (shapeOf c) (shape-sound c) lim s (d .request)
 
 -- from answers to gifts
 replay-tells : (lim : Limits) (c : ℕ) (s : Class) (xs : List Call) (gs gs′ : List (Option ℕ)) → AllFit lim c s xs gs → AllFit lim c s xs gs′ → replay lim c s xs gs ≡ replay lim c s xs gs′ → gs ≡ gs′
@@ -94,7 +94,7 @@ replay-tells lim c s [] gs gs′ f f′ e = f ∙ sym f′
 replay-tells lim c s (x ∷ xs) [] gs′ f f′ e = absurd f
 replay-tells lim c s (x ∷ xs) (g ∷ gs) [] f f′ e = absurd f′
 replay-tells lim c s (x ∷ xs) (g ∷ gs) (g′ ∷ gs′) f f′ e =
-    let same : g ≡ g′ = serve-tells g g′ (ask-shows lim c s (wayOf x)) (f .0) (f′ .0) (head-eq-of-cons-eq e) in
+    let same : g ≡ g′ = serve-tells g g′ (ask-tells-run lim c s (wayOf x)) (f .0) (f′ .0) (head-eq-of-cons-eq e) in
     let rest = subst (λ z. AllFit lim c (reply lim c s x z .class) xs gs′ → replay lim c (reply lim c s x g .class) xs gs ≡ replay lim c (reply lim c s x z .class) xs gs′ → gs ≡ gs′)
     same (replay-tells lim c (reply lim c s x g .class) xs gs gs′ (f .1)) in
     ap₂ _∷_ same (rest (f′ .1) (tail-eq-of-cons-eq e))
@@ -129,7 +129,7 @@ pub record Own (c : ℕ) (o : Outcome) (q : Ask) : Type 0 where
   pub answer : o .answer ≡ serve q gift .answer
   pub fits : Fits q gift
 
-asked-pages : {sh : Shape} {q : Ask} (g : Option ℕ) → Shows sh q → Fits q g → runWith (asked q) g ≡ runWith (sh .pages) g
+asked-pages : {sh : Shape} {q : Ask} (g : Option ℕ) → TellsRun sh q → Fits q g → runWith (asked q) g ≡ runWith (sh .pages) g
 asked-pages g is-done f = rw f
 asked-pages g (is-asked t) f = refl
 
@@ -152,7 +152,7 @@ module _ (size : ℕ) (H : Heap) where
       let f = offer-fits size (hostOf r) H q in
       record {
         gift = offer size (hostOf r) (H .arena) q .run;
-        run = asked-pages (offer size (hostOf r) (H .arena) q .run) (answer-shows (shapeOf c) (shape-sound c) (H .rules c) (H .classes c) r) f;
+        run = asked-pages (offer size (hostOf r) (H .arena) q .run) (answer-tells-run (shapeOf c) (shape-sound c) (H .rules c) (H .classes c) r) f;
         class = update-same (H .classes) c _;
         answer = refl;
         fits = f;

@@ -1,5 +1,5 @@
 -- The counts of the arena's record are those of the history.
---     counted    the statement
+--     counted-by    the statement
 use Prim.Native.Nat.{ℕ, suc, _+_, _-_, _*_, _/_, _%_, _^_, _≤_}
 use native.Mathlib.Nat.{div-eq-of-eq-mul-left, zero-div, zero-mul}
 use mathlib.Core.Path.{_≡_, refl, sym, ap, _∙_, subst}

@@ -19,7 +19,7 @@ use Rattle.model.specs.Class.{Class, Result, Ask, done, serve, refuse}
 use Rattle.model.specs.Release.{Site, Found, Settled, find, inPartial, inFull, orElse, mapFound, locate, parkIn, destinationIn, park, setRetired, settle}
 use Rattle.model.specs.Chunks.{startsAt, blocksOn, settleChunk, settleChunks, releaseChunks, answer}
 use Rattle.model.specs.Held.{fatesIn}
-use Rattle.model.specs.Groups.{isBack, wentBack, GroupsGive}
+use Rattle.model.specs.Groups.{isBack, groupsBack, GroupsGive}
 use Rattle.model.proofs.Find.{FoundLaws, found-law}
 use Rattle.model.proofs.Fates.{chunks-fated}
 
@@ -67,7 +67,7 @@ module _ (sh : Shape) (lim : Limits) (h : ℕ) where
   chunk-given s ws q (some x) k = record { given = settle-given (blocksOn sh ws (x .page)) x .given ∙ ap (λ p. cond (isBack (settle sh lim h true (blocksOn sh ws (x .page)) x .fate)) (p ∷ []) []) (eqb-true (x .page .first) q k) }
 
   -- ---- all of them
-  chunks-given : (ws : List ℕ) (s : Class) (gs : List ℕ) → settleChunks sh lim h ws s gs .gives ≡ wentBack gs (settleChunks sh lim h ws s gs .fates)
+  chunks-given : (ws : List ℕ) (s : Class) (gs : List ℕ) → settleChunks sh lim h ws s gs .gives ≡ groupsBack gs (settleChunks sh lim h ws s gs .fates)
   unfolding settleChunks
   chunks-given ws s [] = refl
   chunks-given ws s (g ∷ gs) =
@@ -75,7 +75,7 @@ module _ (sh : Shape) (lim : Limits) (h : ℕ) where
       let b = settleChunk sh lim h s ws o in
       let k = chunk-given s ws (pageOf g) o (passes (startsAt (pageOf g)) s) .given in
       let r = chunks-given ws (b .class) gs in
-      rw (k, r) (joined (isBack (b .fate)) (wentBack gs (settleChunks sh lim h ws (b .class) gs .fates)))
+      rw (k, r) (joined (isBack (b .fate)) (groupsBack gs (settleChunks sh lim h ws (b .class) gs .fates)))
     where
       joined : (t : Bool) (qs : List ℕ) → cond t (pageOf g ∷ []) [] ++ qs ≡ cond t (pageOf g ∷ qs) qs
       joined true qs = refl
@@ -83,7 +83,7 @@ module _ (sh : Shape) (lim : Limits) (h : ℕ) where
 
 -- ---- the answer
 data Gives (gs : List ℕ) : Ask → Type 0 where
-  gives-done : {r : Result} → r .gives ≡ wentBack gs (fatesIn (length gs) (r .answer)) → Gives gs (done r)
+  gives-done : {r : Result} → r .gives ≡ groupsBack gs (fatesIn (length gs) (r .answer)) → Gives gs (done r)
 
 gives-cond : (gs : List ℕ) (t : Bool) (p q : Ask) → Gives gs p → Gives gs q → Gives gs (cond t p q)
 gives-cond gs true p q f g = f
@@ -98,7 +98,7 @@ module _ (sh : Shape) (lim : Limits) (s : Class) (h : ℕ) (ws gs fs : List ℕ)
   all-given =
       let b = settleChunks sh lim h ws s gs in
       let t : take (length gs) (b .fates ++ drop (length gs) fs) ≡ b .fates = rw (sym (chunks-fated sh lim h ws gs s .many)) (take-append-seam (b .fates) _) in
-      gives-done (chunks-given sh lim h ws s gs ∙ ap (wentBack gs) (sym t))
+      gives-done (chunks-given sh lim h ws s gs ∙ ap (groupsBack gs) (sym t))
 
   answer-gives : Gives gs (answer sh lim s (Calls.giveChunks h ws gs fs))
   unfolding answer releaseChunks
@@ -107,5 +107,5 @@ module _ (sh : Shape) (lim : Limits) (s : Class) (h : ℕ) (ws gs fs : List ℕ)
 pub groups-give : (sh : Shape) (lim : Limits) (s : Class) → GroupsGive sh lim s
 groups-give sh lim s = record { gives = λ h ws gs fs g. observed gs g (answer-gives sh lim s h ws gs fs) }
   where
-    observed : (gs : List ℕ) (g : Option ℕ) {q : Ask} → Gives gs q → serve q g .gives ≡ wentBack gs (fatesIn (length gs) (serve q g .answer))
+    observed : (gs : List ℕ) (g : Option ℕ) {q : Ask} → Gives gs q → serve q g .gives ≡ groupsBack gs (fatesIn (length gs) (serve q g .answer))
     observed gs g (gives-done k) = k

@@ -22,7 +22,7 @@ use Rattle.model.specs.Chunks.{startsAt}
 use Rattle.model.specs.History.{Event, events, heapAfter}
 use Rattle.model.specs.Entries.{OutIn}
 use Rattle.model.specs.Yields.{Listed}
-use Rattle.model.specs.Offered.{blocksAt, gets, yieldsUp, renews, touches, HasRun, Spent, NonePartial, NoneListed, Clean}
+use Rattle.model.specs.Offered.{blocksAt, gets, yieldsUp, renews, releasesTo, HasRun, Spent, NonePartial, NoneListed, Clean}
 use Rattle.model.proofs.Counts.{elem-count, count-in}
 use Rattle.model.proofs.Pages.{outOf, on, beginsOn, out-on, words-below, words-once, words-join, GoodPage}
 use Rattle.model.proofs.Sites.{outCount, Once, GoodClass, here-out, out-here}
@@ -191,14 +191,14 @@ module _ (size : ℕ) (rules : Rules) (xs : List Call) (c : ℕ) where
   pub clean-counted : (q : ℕ) → HasRun c q vs → Clean c q vs → weigh (shapeOf c) q clean class ≡ 1
   clean-counted q h b =
       runs-observed size rules xs c q .cleans
-      ∙ ap {B = ℕ} (λ t. cond (t && sinceFrom (renews c q) (touches c q) false vs) 1 0) (observed (gets c q) (yieldsUp c q) vs h)
-      ∙ ap {B = ℕ} (λ t. cond t 1 0) (observed (renews c q) (touches c q) vs b)
+      ∙ ap {B = ℕ} (λ t. cond (t && sinceFrom (renews c q) (releasesTo c q) false vs) 1 0) (observed (gets c q) (yieldsUp c q) vs h)
+      ∙ ap {B = ℕ} (λ t. cond t 1 0) (observed (renews c q) (releasesTo c q) vs b)
 
   pub counted-clean : (q : ℕ) → 1 ≤ weigh (shapeOf c) q clean class → Clean c q vs
   counted-clean q n =
       let h = sinceFrom (gets c q) (yieldsUp c q) false vs in
-      let b = sinceFrom (renews c q) (touches c q) false vs in
-      by-cases (h && b) (λ e. untold (renews c q) (touches c q) vs (and-right h b e))
+      let b = sinceFrom (renews c q) (releasesTo c q) false vs in
+      by-cases (h && b) (λ e. untold (renews c q) (releasesTo c q) vs (and-right h b e))
       (λ e. absurd (omega (arith, runs-observed size rules xs c q .cleans, ap {B = ℕ} (λ t. cond t 1 0) e)))
 
   pub out-counted : (w : ℕ) → OutIn vs c w → 1 ≤ outCount (shapeOf c) w class

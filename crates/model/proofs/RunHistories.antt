@@ -18,7 +18,7 @@ use Rattle.model.specs.Chunks.{answer}
 use Rattle.model.specs.Heap.{Heap, newHeap, runWith, asked, offer, finish, interact, classCall, directCall, route, step}
 use Rattle.model.specs.History.{Event, eventOf, eventsFrom, events, heapFrom, heapAfter, isOf}
 use Rattle.model.specs.Entries.{Entry}
-use Rattle.model.specs.Offered.{wentBack, wentCold, fated, zeroes, hasBlock, named, startsRun, gets, touches, yieldsUp, renews}
+use Rattle.model.specs.Offered.{wentBack, wentCold, fated, zeroes, hasBlock, hasRequest, startsRun, gets, releasesTo, yieldsUp, renews}
 use Rattle.model.proofs.Ways.{Goes, is-turned, is-straight, is-class, goes}
 use Rattle.model.proofs.Update.{update-same}
 use Rattle.model.proofs.Alone.{direct-keeps}
@@ -41,16 +41,16 @@ abbrev hasAfter : Event → Tellings → Tellings
 hasAfter v hs = λ c q. sinceNext (gets c q) (yieldsUp c q) (hs c q) v
 
 abbrev cleanAfter : Event → Tellings → Tellings
-cleanAfter v bs = λ c q. sinceNext (renews c q) (touches c q) (bs c q) v
+cleanAfter v bs = λ c q. sinceNext (renews c q) (releasesTo c q) (bs c q) v
 
 -- an event tells nothing of the run at q if none of the tests passes
-silent : (c q : ℕ) (C : Class) (h b : Bool) (v : Event) → gets c q v ≡ false → yieldsUp c q v ≡ false → named c (zeroes (shapeOf c) q) (names (v .call)) (v .answer) ≡ false → touches c q v ≡ false
-    → Counted (shapeOf c) (shape-sound c) q C h b → Counted (shapeOf c) (shape-sound c) q C (sinceNext (gets c q) (yieldsUp c q) h v) (sinceNext (renews c q) (touches c q) b v)
+silent : (c q : ℕ) (C : Class) (h b : Bool) (v : Event) → gets c q v ≡ false → yieldsUp c q v ≡ false → hasRequest c (zeroes (shapeOf c) q) (names (v .call)) (v .answer) ≡ false → releasesTo c q v ≡ false
+    → Counted (shapeOf c) (shape-sound c) q C h b → Counted (shapeOf c) (shape-sound c) q C (sinceNext (gets c q) (yieldsUp c q) h v) (sinceNext (renews c q) (releasesTo c q) b v)
 silent c q C h b v g u z t k = rw (g, u, z, t, and-yes h, and-yes b) k
 
-pub refused-named : (c : ℕ) (t : Request → Answer → Bool) (nm : Option Named) (n : ℕ) → ((r : Request) → t r (Calls.refused n) ≡ false) → named c t nm (Calls.refused n) ≡ false
-refused-named c t none n h = refl
-refused-named c t (some d) n h = rw (h (d .request)) (and-no (eqb (d .class) c))
+pub refused-request : (c : ℕ) (t : Request → Answer → Bool) (nm : Option Named) (n : ℕ) → ((r : Request) → t r (Calls.refused n) ≡ false) → hasRequest c t nm (Calls.refused n) ≡ false
+refused-request c t none n h = refl
+refused-request c t (some d) n h = rw (h (d .request)) (and-no (eqb (d .class) c))
 
 untouched : (c q n : ℕ) (r : Request) → hasBlock (shapeOf c) q (Calls.releasedBy r (Calls.refused n)) ≡ false
 unfolding hasBlock
@@ -104,9 +104,9 @@ module _ (size : ℕ) (H : Heap) (good : (c : ℕ) → GoodClass (shapeOf c) (H 
   route-observed x (is-turned t) once = record {
     counted = λ c q.
         silent c q (H .classes c) (hs c q) (bs c q) (eventOf x (route size H x Calls.turned)) (and-no (isOf c (names x)))
-        (refused-named c (fated wentBack (shapeOf c) q) (names x) 3 (λ r. unfated (shapeOf c) q wentBack r 3))
-        (refused-named c (zeroes (shapeOf c) q) (names x) 3 (λ r. rw (unfated (shapeOf c) q wentCold r 3)))
-        (refused-named c (λ r z. hasBlock (shapeOf c) q (Calls.releasedBy r z)) (names x) 3 (untouched c q 3))
+        (refused-request c (fated wentBack (shapeOf c) q) (names x) 3 (λ r. unfated (shapeOf c) q wentBack r 3))
+        (refused-request c (zeroes (shapeOf c) q) (names x) 3 (λ r. rw (unfated (shapeOf c) q wentCold r 3)))
+        (refused-request c (λ r z. hasBlock (shapeOf c) q (Calls.releasedBy r z)) (names x) 3 (untouched c q 3))
         (k .counted c q);
   }
   route-observed x (is-straight t e) once = record {
@@ -119,7 +119,7 @@ module _ (size : ℕ) (H : Heap) (good : (c : ℕ) → GoodClass (shapeOf c) (H 
   }
 
 observed-from : (size n : ℕ) (H : Heap) (es : List Entry) (f : ℕ → Bool) (l : ℕ → ℕ) → Inv size n H es f l → AllListed H → (hs bs : Tellings) → RunsAre H hs bs → (xs : List Call)
-    → RunsAre (heapFrom size H xs) (λ c q. sinceFrom (gets c q) (yieldsUp c q) (hs c q) (eventsFrom size H xs)) (λ c q. sinceFrom (renews c q) (touches c q) (bs c q) (eventsFrom size H xs))
+    → RunsAre (heapFrom size H xs) (λ c q. sinceFrom (gets c q) (yieldsUp c q) (hs c q) (eventsFrom size H xs)) (λ c q. sinceFrom (renews c q) (releasesTo c q) (bs c q) (eventsFrom size H xs))
 unfolding step
 observed-from size n H es f l inv y hs bs k [] = k
 observed-from size n H es f l inv y hs bs k (x ∷ xs) =
@@ -128,7 +128,7 @@ observed-from size n H es f l inv y hs bs k (x ∷ xs) =
     (route-observed size H (inv .good) (inv-once size n H es f l inv) y hs bs k x (goes x) (inv-once size (suc n) (step size H x .heap) _ _ _ i)) xs
 
 pub runs-observed : (size : ℕ) (rules : Rules) (xs : List Call) (c q : ℕ)
-    → Counted (shapeOf c) (shape-sound c) q (heapAfter size rules xs .classes c) (sinceFrom (gets c q) (yieldsUp c q) false (events size rules xs)) (sinceFrom (renews c q) (touches c q) false (events size rules xs))
+    → Counted (shapeOf c) (shape-sound c) q (heapAfter size rules xs .classes c) (sinceFrom (gets c q) (yieldsUp c q) false (events size rules xs)) (sinceFrom (renews c q) (releasesTo c q) false (events size rules xs))
 unfolding newHeap
 runs-observed size rules xs c q =
     observed-from size 0 (newHeap rules) [] (λ x. false) (λ x. 0) (start size rules) (λ c. record { partial = tt; empty = tt; full = tt })

@@ -22,7 +22,7 @@ use Rattle.model.specs.History.{eventsFrom, heapFrom, heapAfter}
 use Rattle.model.specs.Entries.{Entry}
 use Rattle.model.specs.Ledger.{classAbandons}
 use Rattle.model.specs.Demands.{Orderless}
-use Rattle.model.specs.Order.{SameArena, SameHeap, SameGiven, SameOutcome, withoutCounts, countless}
+use Rattle.model.specs.Order.{SameArena, SameHeap, SameGiven, SameOutcome, withoutCounts, countsAside}
 use Rattle.model.proofs.ArenaLaws.{idle, give-all-law}
 use Rattle.model.proofs.Tidy.{Tidy}
 use Rattle.model.proofs.Order.{Sound, give-same, give-all-same, commit-same, grow-same}
@@ -42,7 +42,7 @@ module _ (size : ℕ) (H : Heap) (b : Arena) (s : SameArena (H .arena) b) (k : S
   abbrev K : Heap
   K = with b H
 
-  same-unchanged : (x y : Answer) → countless x ≡ countless y → SameOutcome (unchanged H x) (unchanged K y)
+  same-unchanged : (x y : Answer) → countsAside x ≡ countsAside y → SameOutcome (unchanged H x) (unchanged K y)
   same-unchanged x y e = record { heap = record { arena = s; holder = refl; classes = refl; rules = refl }; answer = e; run = refl }
 
   same : (x : Answer) → SameOutcome (unchanged H x) (unchanged K x)
@@ -80,7 +80,7 @@ module _ (size : ℕ) (H : Heap) (b : Arena) (s : SameArena (H .arena) b) (k : S
   unfolding commitCall
   commit-call h n e =
       let w = commit-same size h n (good-run n e) (H .arena) b s k in
-      record { heap = record { arena = w .arena; holder = ap (λ o. passTo direct (coversRun n o) (H .holder)) (w .run); classes = refl; rules = refl }; answer = ap₂ (λ o f. countless (answerRun o f)) (w .run) (w .fresh); run = refl }
+      record { heap = record { arena = w .arena; holder = ap (λ o. passTo direct (coversRun n o) (H .holder)) (w .run); classes = refl; rules = refl }; answer = ap₂ (λ o f. countsAside (answerRun o f)) (w .run) (w .fresh); run = refl }
 
   grow-call : (h q old new : ℕ) → badGrowth old new ≡ false → SameOutcome (growCall size H h q old new) (growCall size K h q old new)
   unfolding growCall
@@ -147,7 +147,7 @@ module _ (size n : ℕ) (H : Heap) (es : List Entry) (f : ℕ → Bool) (l : ℕ
 -- along a history
 module _ (size : ℕ) where
   record SameFrom (H K : Heap) (zs : List Call) : Type 0 where
-    alike : map (λ v. countless (v .answer)) (eventsFrom size H zs) ≡ map (λ v. countless (v .answer)) (eventsFrom size K zs)
+    alike : map (λ v. countsAside (v .answer)) (eventsFrom size H zs) ≡ map (λ v. countsAside (v .answer)) (eventsFrom size K zs)
     runs : map (λ v. v .run) (eventsFrom size H zs) ≡ map (λ v. v .run) (eventsFrom size K zs)
     stays : SameHeap (heapFrom size H zs) (heapFrom size K zs)
 

@@ -27,8 +27,8 @@ use Rattle.model.specs.Chunks.{startsAt, answer}
 use Rattle.model.specs.Heap.{Heap, newHeap, offer, finish, interact, classCall, step}
 use Rattle.model.specs.History.{Event, eventOf, events, heapAfter}
 use Rattle.model.specs.Yields.{Listed}
-use Rattle.model.specs.Offered.{blocksAt, touches, HasRun, Used}
-use Rattle.model.specs.Sources.{chills, draws, Chilled, IsPartial, IsEmpty, IsCold, Has, BlockOf, OneRun, follows, Later, Turns}
+use Rattle.model.specs.Offered.{blocksAt, releasesTo, HasRun, Used}
+use Rattle.model.specs.Sources.{chills, draws, Chilled, IsPartial, IsEmpty, IsCold, Has, ComesFrom, FromOneRun, follows, Later, Turns}
 use Rattle.model.specs.Demands.{Sources}
 use Rattle.model.proofs.Counts.{elem-count, count-elem, count-in, count-append}
 use Rattle.model.proofs.Pages.{outOf, on, beginsOn, out-on, out-is, GoodPage, EmptyPage, carve-empty, reused-empty, thawed-empty}
@@ -199,7 +199,7 @@ module _ (size : ℕ) (rules : Rules) (xs : List Call) (c : ℕ) where
   abbrev vs : List Event
   vs = events size rules xs
 
-  stands : Stands (shapeOf c) s (λ q. sinceFrom (chills c q) (draws c q) false vs) (λ i j. sinceFrom (follows c i j) (touches c j) false vs)
+  stands : Stands (shapeOf c) s (λ q. sinceFrom (chills c q) (draws c q) false vs) (λ i j. sinceFrom (follows c i j) (releasesTo c j) false vs)
   stands = stores-observed size rules xs c
 
   listed : Listed (shapeOf c) s
@@ -250,23 +250,23 @@ module _ (size : ℕ) (rules : Rules) (xs : List Call) (c : ℕ) where
   abbrev Last : ℕ → ℕ → Type 0
   Last r q = (r ≡ q) ⊎ Later c r q vs
 
-  last-of : (r q : ℕ) (l : List ℕ) → Ordered (λ i j. sinceFrom (follows c i j) (touches c j) false vs) (r ∷ l) → 1 ≤ count q (r ∷ l) → Last r q
+  last-of : (r q : ℕ) (l : List ℕ) → Ordered (λ i j. sinceFrom (follows c i j) (releasesTo c j) false vs) (r ∷ l) → 1 ≤ count q (r ∷ l) → Last r q
   last-of r q l k n =
       by-cases (eqb q r)
       (λ e. inl (sym (eqb-true q r e)))
       (λ e. let m : 1 ≤ 0 + count q l = rw e at n in
-      inr (untold (follows c r q) (touches c q) vs (all-count (λ j. sinceFrom (follows c r j) (touches c j) false vs ≡ true) q l (omega arith) (k .0))))
+      inr (untold (follows c r q) (releasesTo c q) vs (all-count (λ j. sinceFrom (follows c r j) (releasesTo c j) false vs ≡ true) q l (omega arith) (k .0))))
 
   empty-last : isMedium sh ≡ false → (e : Page) (es : List Page) → s .empty ≡ e ∷ es → (h : Has IsEmpty vs c) → Last (e .first) (h .run)
   empty-last small e es d h =
       let q = h .run in
-      last-of (e .first) q (firsts es) (subst (λ (l : List Page). Ordered (λ i j. sinceFrom (follows c i j) (touches c j) false vs) (firsts l)) d (stands .empties small))
+      last-of (e .first) q (firsts es) (subst (λ (l : List Page). Ordered (λ i j. sinceFrom (follows c i j) (releasesTo c j) false vs) (firsts l)) d (stands .empties small))
       (omega (arith, empty-in small h, firsts-count q (e ∷ es), ap (total (λ p. cond (startsAt q p) 1 0)) d))
 
   cold-last : isMedium sh ≡ false → (k : Cold) (ks : List Cold) → s .cold ≡ k ∷ ks → (h : Has IsCold vs c) → Last (k .first) (h .run)
   cold-last small k ks d h =
       let q = h .run in
-      last-of (k .first) q (coldFirsts ks) (subst (λ (l : List Cold). Ordered (λ i j. sinceFrom (follows c i j) (touches c j) false vs) (coldFirsts l)) d (stands .colds small))
+      last-of (k .first) q (coldFirsts ks) (subst (λ (l : List Cold). Ordered (λ i j. sinceFrom (follows c i j) (releasesTo c j) false vs) (coldFirsts l)) d (stands .colds small))
       (omega (arith, cold-in small h, cold-count q (k ∷ ks), ap (total (λ (i : Cold). cond (eqb (i .first) q) 1 0)) d))
 
   idle-listed : (q : ℕ) → HasRun c q vs → (Used vs c q → ⊥) → s .empty ≡ [] → s .cold ≡ [] → ⊥
@@ -339,7 +339,7 @@ module _ (size : ℕ) (rules : Rules) (xs : List Call) (c : ℕ) where
   same-run w q r hq hr a b =
       two-runs sh ok q s (once size rules xs c) r (beginsOn sh ok w) (block-on sh ok w q a) (block-on sh ok w r b) (omega (arith, run-counted size rules xs c q hq)) (omega (arith, run-counted size rules xs c r hr))
 
-  abbrev hasOf : {Is : List Event → ℕ → ℕ → Type 0} {w : ℕ} → BlockOf Is vs c w → Has Is vs c
+  abbrev hasOf : {Is : List Event → ℕ → ℕ → Type 0} {w : ℕ} → ComesFrom Is vs c w → Has Is vs c
   hasOf b = record { run = b .run; has = b .has; is = b .is }
 
   -- ---- the four sources
@@ -347,7 +347,7 @@ module _ (size : ℕ) (rules : Rules) (xs : List Call) (c : ℕ) where
     abbrev ws : List ℕ
     ws = blocksOf (v .answer)
 
-    from-partial : Has IsPartial vs c → ((w : ℕ) → elem w ws ≡ true → BlockOf IsPartial vs c w) → Turns vs c v
+    from-partial : Has IsPartial vs c → ((w : ℕ) → elem w ws ≡ true → ComesFrom IsPartial vs c w) → Turns vs c v
     from-partial h k = record {
       partial = λ w m. (λ b. h, λ i. k w m);
       empty = λ w m. (λ b. absurd (idle w m b (b .is .0)), λ i. absurd (i .0 h));
@@ -357,13 +357,13 @@ module _ (size : ℕ) (rules : Rules) (xs : List Call) (c : ℕ) where
       lastCold = λ i w m b k. absurd (idle w m b (b .is .0));
     }
       where
-        idle : {Is : List Event → ℕ → ℕ → Type 0} (w : ℕ) → elem w ws ≡ true → (b : BlockOf Is vs c w) → (Used vs c (b .run) → ⊥) → ⊥
+        idle : {Is : List Event → ℕ → ℕ → Type 0} (w : ℕ) → elem w ws ≡ true → (b : ComesFrom Is vs c w) → (Used vs c (b .run) → ⊥) → ⊥
         idle w m b u =
             let p = k w m in
             u (subst (Used vs c) (same-run w (p .run) (b .run) (p .has) (b .has) (p .block) (b .block)) (p .is .0))
 
-    module _ (n : Has IsPartial vs c → ⊥) (r : ℕ) (h : HasRun c r vs) (run : OneRun (vs ++ v ∷ []) c ws) (blocks : (w : ℕ) → elem w ws ≡ true → elem w (blocksAt sh r) ≡ true) where
-      its : {Is : List Event → ℕ → ℕ → Type 0} (w : ℕ) → elem w ws ≡ true → (b : BlockOf Is vs c w) → b .run ≡ r
+    module _ (n : Has IsPartial vs c → ⊥) (r : ℕ) (h : HasRun c r vs) (run : FromOneRun (vs ++ v ∷ []) c ws) (blocks : (w : ℕ) → elem w ws ≡ true → elem w (blocksAt sh r) ≡ true) where
+      its : {Is : List Event → ℕ → ℕ → Type 0} (w : ℕ) → elem w ws ≡ true → (b : ComesFrom Is vs c w) → b .run ≡ r
       its w m b = same-run w (b .run) r (b .has) h (b .block) (blocks w m)
 
       from-empty : IsEmpty vs c r → (isMedium sh ≡ false → (k : Has IsEmpty vs c) → Last r (k .run)) → Turns vs c v
@@ -376,7 +376,7 @@ module _ (size : ℕ) (rules : Rules) (xs : List Call) (c : ℕ) where
         lastCold = λ small w m b k. absurd (warm w m b);
       }
         where
-          warm : (w : ℕ) → elem w ws ≡ true → BlockOf IsCold vs c w → ⊥
+          warm : (w : ℕ) → elem w ws ≡ true → ComesFrom IsCold vs c w → ⊥
           warm w m b = i .1 (subst (λ q. Chilled c q vs) (its w m b) (b .is .1))
 
       from-cold : (Has IsEmpty vs c → ⊥) → IsCold vs c r → (isMedium sh ≡ false → (k : Has IsCold vs c) → Last r (k .run)) → Turns vs c v
@@ -389,7 +389,7 @@ module _ (size : ℕ) (rules : Rules) (xs : List Call) (c : ℕ) where
         lastCold = λ small w m b k. subst (λ q. Last q (k .run)) (sym (its w m b)) (last small k);
       }
 
-    from-new : (Has IsPartial vs c → ⊥) → (Has IsEmpty vs c → ⊥) → (Has IsCold vs c → ⊥) → ((w : ℕ) → elem w ws ≡ true → OneRun (vs ++ v ∷ []) c ws) → Turns vs c v
+    from-new : (Has IsPartial vs c → ⊥) → (Has IsEmpty vs c → ⊥) → (Has IsCold vs c → ⊥) → ((w : ℕ) → elem w ws ≡ true → FromOneRun (vs ++ v ∷ []) c ws) → Turns vs c v
     from-new n e k run = record {
       partial = λ w m. (λ b. hasOf b, λ i. absurd (n i));
       empty = λ w m. (λ b. absurd (e (hasOf b)), λ i. absurd (e (i .1)));
@@ -458,7 +458,7 @@ module _ (size : ℕ) (rules : Rules) (xs : List Call) (x : Call) (c : ℕ) (l :
     page-blocks : (q : ℕ) → p .first ≡ q → (w : ℕ) → elem w (blocksOf (now .answer)) ≡ true → elem w (blocksAt shape q) ≡ true
     page-blocks q e w m = rw (← e) (fill-one shape (shape-sound c) (rules c) (shape .batch) p good w (rw are at m))
 
-    page-run : (q : ℕ) → p .first ≡ q → step size (heapAfter size rules xs) x .heap .classes c ≡ served l (fillFromList shape (shape .batch) (p ∷ [])) es cs fs .class → OneRun (before ++ now ∷ []) c (blocksOf (now .answer))
+    page-run : (q : ℕ) → p .first ≡ q → step size (heapAfter size rules xs) x .heap .classes c ≡ served l (fillFromList shape (shape .batch) (p ∷ [])) es cs fs .class → FromOneRun (before ++ now ∷ []) c (blocksOf (now .answer))
     page-run q e d = record { run = q; has = subst (λ r. HasRun c r (before ++ now ∷ [])) e (run-after p es cs fs d); blocks = page-blocks q e }
 
   all-fit : (ps : List Page) → All (GoodPage shape) ps → All (λ p. hasMore shape p ≡ true) ps → All (Busy shape) ps → All (Fit size rules xs c) ps
@@ -502,7 +502,7 @@ module _ (size : ℕ) (rules : Rules) (xs : List Call) (x : Call) (c : ℕ) (l :
       (go g a k)
     where
       go : (g : Option ℕ) → step size (heapAfter size rules xs) x .answer ≡ onRun shape l fs g .answer → step size (heapAfter size rules xs) x .heap .classes c ≡ onRun shape l fs g .class
-          → (w : ℕ) → elem w (blocksOf (now .answer)) ≡ true → OneRun (before ++ now ∷ []) c (blocksOf (now .answer))
+          → (w : ℕ) → elem w (blocksOf (now .answer)) ≡ true → FromOneRun (before ++ now ∷ []) c (blocksOf (now .answer))
       go none a k w m = let z : elem w [] ≡ true = rw a at m in absurd (false≢true z)
       go (some q) a k w m = page-run (carve shape q true) [] [] fs (carve-empty shape (shape-sound c) (isMedium shape) q true .good) a q (carve-first shape q true) k
 

@@ -34,7 +34,7 @@ use Rattle.model.specs.Heap.{Heap, newHeap, offer, finish, interact, cla
 use Rattle.model.specs.History.{Event, eventOf, eventsFrom, events, heapFrom, heapAfter}
 use Rattle.model.specs.Entries.{Entry}
 use Rattle.model.specs.Yields.{Listed}
-use Rattle.model.specs.Offered.{blocksAt, hasBlock, wentCold, wentBack, fatedIn, fated, touches}
+use Rattle.model.specs.Offered.{blocksAt, hasBlock, wentCold, wentBack, fatedIn, fated, releasesTo}
 use Rattle.model.specs.Sources.{chills, draws, behind, releasesAfter, follows}
 use Rattle.model.proofs.Counts.{count-append, elem-count, count-in, every-count}
 use Rattle.model.proofs.Runs.{covers-in}
@@ -47,13 +47,13 @@ use Rattle.model.proofs.Alone.{direct-keeps}
 use Rattle.model.proofs.Fates.{chunks-fated}
 use Rattle.model.proofs.HeapLaws.{Inv, at-class, step-inv, start}
 use Rattle.model.proofs.Yields as Yields
-use Rattle.model.proofs.Yields.{AllListed, route-listed}
+use Rattle.model.proofs.Yields.{More, AllListed, route-listed}
 use Rattle.model.proofs.Since.{sinceNext, sinceFrom}
 use Rattle.model.proofs.RunsObserved.{each, and-yes, any-passing, passing-any, block-of, block-on, weigh-once, total-le}
 use Rattle.model.proofs.Weights.{weigh, SiteWeight, SiteWeights, site-weight, settle-weighs}
 use Rattle.model.proofs.Newest.{firsts, coldFirsts, firsts-count, cold-count, Ordered, ordered-map, nextAt, ordered-beside, ordered-top, nextAll, all-observed}
 use Rattle.model.proofs.RunRequests.{unfated}
-use Rattle.model.proofs.RunHistories.{Tellings, AllOnce, inv-once, refused-named}
+use Rattle.model.proofs.RunHistories.{Tellings, AllOnce, inv-once, refused-request}
 use Rattle.model.proofs.TakesObserved.{pop-block, some-block, came}
 use Rattle.model.proofs.Offers.{outs-on}
 
@@ -172,10 +172,7 @@ module _ (sh : Shape) (ok : Sound sh) (lim : Limits) (paged : isMedium sh ≡ fa
       (λ e. absurd (omega (arith, pop-moves sh ok n p good (w .0), w .1, none-out-of sh ok (w .0) (pop sh n p .page) e)))
       (λ e. e)
 
-  abbrev More : Page → Type 0
-  More p = hasMore sh p ≡ true
-
-  fill-rest : (n : ℕ) (ps : List Page) → All (GoodPage sh) ps → All More ps → All (Busy sh) ps → All (Busy sh) (fillFromList sh n ps .partial)
+  fill-rest : (n : ℕ) (ps : List Page) → All (GoodPage sh) ps → All (More sh) ps → All (Busy sh) ps → All (Busy sh) (fillFromList sh n ps .partial)
   unfolding fillFromList after
   fill-rest n [] good more k = tt
   fill-rest n (p ∷ ps) good more k =
@@ -185,7 +182,7 @@ module _ (sh : Shape) (ok : Sound sh) (lim : Limits) (paged : isMedium sh ≡ fa
       (λ e. let y = pop-busy n p (omega (arith, eqb-false n 0 e)) (good .0) (more .0) in
       rw e (by-cases (stays sh (pop sh n p .page)) (λ b. rw b (y, ih)) (λ b. rw b ih)))
 
-  fill-busy : (n : ℕ) (p : Page) (ps : List Page) → 1 ≤ n → All (GoodPage sh) (p ∷ ps) → All More (p ∷ ps) → All (Busy sh) ps → All (Busy sh) (fillFromList sh n (p ∷ ps) .partial)
+  fill-busy : (n : ℕ) (p : Page) (ps : List Page) → 1 ≤ n → All (GoodPage sh) (p ∷ ps) → All (More sh) (p ∷ ps) → All (Busy sh) ps → All (Busy sh) (fillFromList sh n (p ∷ ps) .partial)
   unfolding fillFromList after
   fill-busy n p ps h good more k =
       let ih = fill-rest (n - length (pop sh n p .blocks)) ps (good .1) (more .1) k in
@@ -206,7 +203,7 @@ module _ (sh : Shape) (ok : Sound sh) (lim : Limits) (paged : isMedium sh ≡ fa
       (λ a. a)
 
   -- and some are the first page's
-  fill-drawn : (n : ℕ) (p : Page) (ps : List Page) → 1 ≤ n → GoodPage sh p → More p → hasBlock sh (p .first) (fillFromList sh n (p ∷ ps) .blocks) ≡ true
+  fill-drawn : (n : ℕ) (p : Page) (ps : List Page) → 1 ≤ n → GoodPage sh p → More sh p → hasBlock sh (p .first) (fillFromList sh n (p ∷ ps) .blocks) ≡ true
   unfolding hasBlock fillFromList after
   fill-drawn n p ps h good more =
       let b = some-block sh ok lim (pop sh n p .blocks) (Yields.pop-gives sh ok lim n p h more) in
@@ -223,7 +220,7 @@ module _ (sh : Shape) (ok : Sound sh) (lim : Limits) (paged : isMedium sh ≡ fa
   abbrev filled : List Page → List ℕ
   filled ps = fillFromList sh (sh .batch) ps .blocks
 
-  served-kept : (s : Class) (h : ℕ) (l : List ℕ) (p : Page) (ps es : List Page) (cs : List Cold) (fs : List Page) → All (GoodPage sh) (p ∷ ps) → All More (p ∷ ps) → (All (Busy sh) (s .partial) → All (Busy sh) ps)
+  served-kept : (s : Class) (h : ℕ) (l : List ℕ) (p : Page) (ps es : List Page) (cs : List Cold) (fs : List Page) → All (GoodPage sh) (p ∷ ps) → All (More sh) (p ∷ ps) → (All (Busy sh) (s .partial) → All (Busy sh) ps)
       → ((b : Bool) (q : ℕ) → chilled sh q (s .cold) ≡ cond b 1 0 → chilled sh q cs ≡ cond (b && not (hasBlock sh q (filled (p ∷ ps)))) 1 0)
       → ((o : ℕ → ℕ → Bool) → Ordered o (firsts (s .empty)) → Ordered o (firsts es)) → ((o : ℕ → ℕ → Bool) → Ordered o (coldFirsts (s .cold)) → Ordered o (coldFirsts cs))
       → Kept sh s (Calls.take h l) (served l (fillFromList sh (sh .batch) (p ∷ ps)) es cs fs)
@@ -277,7 +274,7 @@ module _ (sh : Shape) (ok : Sound sh) (lim : Limits) (paged : isMedium sh ≡ fa
   take-keeps h l [] [] [] fs good one y = keeps-asks (run-kept h l fs)
 
   -- ---- a page with blocks out: the class without it, and with another in its stead
-  record Beside (s : Class) (x : Site) : Type 0 where
+  record SiteBusy (s : Class) (x : Site) : Type 0 where
     rest : All (Busy sh) (s .partial) → All (Busy sh) (x .without .partial)
     put : (p : Page) → Busy sh p → All (Busy sh) (s .partial) → All (Busy sh) (x .with p .partial)
     cold-rest : x .without .cold ≡ s .cold
@@ -285,15 +282,15 @@ module _ (sh : Shape) (ok : Sound sh) (lim : Limits) (paged : isMedium sh ≡ fa
     empty-rest : x .without .empty ≡ s .empty
     empty-put : (p : Page) → x .with p .empty ≡ s .empty
 
-  abbrev Besides : Class → Option Site → Type 0
-  Besides s none = Unit {0}
-  Besides s (some x) = Beside s x
+  abbrev SitesBusy : Class → Option Site → Type 0
+  SitesBusy s none = Unit {0}
+  SitesBusy s (some x) = SiteBusy s x
 
   module _ (t : Page → Bool) (s : Class) where
-    partial-beside : (o : Option Found) → FoundLaws t (s .partial) o → Besides s (mapFound (inPartial s) o)
+    partial-busy : (o : Option Found) → FoundLaws t (s .partial) o → SitesBusy s (mapFound (inPartial s) o)
     unfolding inPartial
-    partial-beside none h = tt
-    partial-beside (some f) h = record {
+    partial-busy none h = tt
+    partial-busy (some f) h = record {
       rest = λ k. all-at (Busy sh) (f .before) (f .page) (f .behind) .0 (subst (All (Busy sh)) (h .is) k) .1;
       put = λ p y k. all-at (Busy sh) (f .before) p (f .behind) .1 (y, all-at (Busy sh) (f .before) (f .page) (f .behind) .0 (subst (All (Busy sh)) (h .is) k) .1);
       cold-rest = refl;
@@ -302,18 +299,18 @@ module _ (sh : Shape) (ok : Sound sh) (lim : Limits) (paged : isMedium sh ≡ fa
       empty-put = λ p. refl;
     }
 
-    full-beside : (o : Option Found) → Besides s (mapFound (inFull s) o)
+    full-busy : (o : Option Found) → SitesBusy s (mapFound (inFull s) o)
     unfolding inFull
-    full-beside none = tt
-    full-beside (some f) = record { rest = λ k. k; put = λ p y k. (y, k); cold-rest = refl; cold-put = λ p. refl; empty-rest = refl; empty-put = λ p. refl }
+    full-busy none = tt
+    full-busy (some f) = record { rest = λ k. k; put = λ p y k. (y, k); cold-rest = refl; cold-put = λ p. refl; empty-rest = refl; empty-put = λ p. refl }
 
-    either-beside : (x y : Option Site) → Besides s x → Besides s y → Besides s (orElse x y)
-    either-beside none y a b = b
-    either-beside (some x) y a b = a
+    either-busy : (x y : Option Site) → SitesBusy s x → SitesBusy s y → SitesBusy s (orElse x y)
+    either-busy none y a b = b
+    either-busy (some x) y a b = a
 
-    beside : Besides s (locate t s)
+    site-busy : SitesBusy s (locate t s)
     unfolding locate
-    beside = either-beside (mapFound (inPartial s) (find t (s .partial))) (mapFound (inFull s) (find t (s .full))) (partial-beside (find t (s .partial)) (found-law t (s .partial))) (full-beside (find t (s .full)))
+    site-busy = either-busy (mapFound (inPartial s) (find t (s .partial))) (mapFound (inFull s) (find t (s .full))) (partial-busy (find t (s .partial)) (found-law t (s .partial))) (full-busy (find t (s .full)))
 
   -- ---- a release to one page
   abbrev one-if : Bool → ℕ
@@ -364,7 +361,7 @@ module _ (sh : Shape) (ok : Sound sh) (lim : Limits) (paged : isMedium sh ≡ fa
     retiredWeighs : (s : Class) (p : Page) (b : Settled) → Settles s p b → Settles s p (setRetired b)
     retiredWeighs s p b k = record { busy = k .busy; cold = λ q. rw (again (b .fate)) (k .cold q); span = λ e. rw (again (b .fate)) (k .span e); empties = k .empties; colds = k .colds }
 
-    module _ (s : Class) (x : Site) (k : Beside s x) where
+    module _ (s : Class) (x : Site) (k : SiteBusy s x) where
       parked-at : (p : Page) → p .first ≡ x .page .first → Settles s (x .page) (park sh lim h (x .without) p)
       parked-at p same =
           let y = parked (x .without) p in
@@ -417,7 +414,7 @@ module _ (sh : Shape) (ok : Sound sh) (lim : Limits) (paged : isMedium sh ≡ fa
     empty : count (x .page .first) (firsts (s .empty)) ≡ 0
     cold : count (x .page .first) (coldFirsts (s .cold)) ≡ 0
 
-  fresh : (s : Class) (x : Site) → ((q : ℕ) → weigh sh q each s ≤ 1) → SiteWeight sh (x .page .first) each s x → Beside s x → Fresh s x
+  fresh : (s : Class) (x : Site) → ((q : ℕ) → weigh sh q each s ≤ 1) → SiteWeight sh (x .page .first) each s x → SiteBusy s x → Fresh s x
   fresh s x one weight k =
       let r = x .page .first in
       let y : weigh sh r each (x .without) + 1 ≡ weigh sh r each s = rw (eq-eqb r r refl) at (weight .rest) in
@@ -481,7 +478,7 @@ module _ (sh : Shape) (ok : Sound sh) (lim : Limits) (paged : isMedium sh ≡ fa
         in
         rw (and-left (o i j) (not (eqb j r)) y, z) (or-right (any (λ v. elem v (blocksAt sh i)) ws) true refl))
 
-    page-keeps : (h w : ℕ) (ws : List ℕ) (o : Option Site) → SiteLaws sh s o → Besides s o → ((q : ℕ) → SiteWeights sh q each s o) → Keeps sh s (Calls.giveBack h (w ∷ ws)) (onPage sh lim h s (w ∷ ws) o)
+    page-keeps : (h w : ℕ) (ws : List ℕ) (o : Option Site) → SiteLaws sh s o → SitesBusy s o → ((q : ℕ) → SiteWeights sh q each s o) → Keeps sh s (Calls.giveBack h (w ∷ ws)) (onPage sh lim h s (w ∷ ws) o)
     unfolding onPage fated
     page-keeps h w ws none law k weight = keeps-refuse s _ 10
     page-keeps h w ws (some x) law k weight =
@@ -502,7 +499,7 @@ module _ (sh : Shape) (ok : Sound sh) (lim : Limits) (paged : isMedium sh ≡ fa
 
     list-keeps : (h : ℕ) (ws : List ℕ) → isNil ws ≡ false → Keeps sh s (Calls.giveBack h ws) (onPage sh lim h s ws (siteOfFirst sh s ws))
     list-keeps h [] n = absurd (true≢false n)
-    list-keeps h (w ∷ ws) n = page-keeps h w ws (locate (isOut sh w) s) (locate-law sh s good (isOut sh w)) (beside (isOut sh w) s) (λ q. site-weight sh q each (isOut sh w) s)
+    list-keeps h (w ∷ ws) n = page-keeps h w ws (locate (isOut sh w) s) (locate-law sh s good (isOut sh w)) (site-busy (isOut sh w) s) (λ q. site-weight sh q each (isOut sh w) s)
 
   -- ---- a release by chunks
   abbrev coldIn : ℕ → List ℕ → List ℕ → ℕ
@@ -534,7 +531,7 @@ module _ (sh : Shape) (ok : Sound sh) (lim : Limits) (paged : isMedium sh ≡ fa
   one-at true u = refl
   one-at false u = refl
 
-  chunk-settles : (h : ℕ) (ws : List ℕ) (g : ℕ) (s : Class) (o : Option Site) → Besides s o → Tells (startsAt (pageOf g)) s o → ChunkSettles g s (settleChunk sh lim h s ws o)
+  chunk-settles : (h : ℕ) (ws : List ℕ) (g : ℕ) (s : Class) (o : Option Site) → SitesBusy s o → Tells (startsAt (pageOf g)) s o → ChunkSettles g s (settleChunk sh lim h s ws o)
   unfolding settleChunk
   chunk-settles h ws g s none k t = record { busy = λ a. a; cold = λ q. rw (and-no (eqb q (pageOf g))) (omega arith) }
   chunk-settles h ws g s (some x) k t =
@@ -549,7 +546,7 @@ module _ (sh : Shape) (ok : Sound sh) (lim : Limits) (paged : isMedium sh ≡ fa
   chunks-settle h ws [] s = record { busy = λ a. a; cold = λ q. omega arith }
   chunks-settle h ws (g ∷ gs) s =
       let o = locate (startsAt (pageOf g)) s in
-      let y = chunk-settles h ws g s o (beside (startsAt (pageOf g)) s) (locate-tells (startsAt (pageOf g)) s) in
+      let y = chunk-settles h ws g s o (site-busy (startsAt (pageOf g)) s) (locate-tells (startsAt (pageOf g)) s) in
       let ih = chunks-settle h ws gs (settleChunk sh lim h s ws o .class) in
       record { busy = λ a. ih .busy (y .busy a); cold = λ q. omega (arith, ih .cold q, y .cold q) }
 
@@ -559,7 +556,7 @@ module _ (sh : Shape) (ok : Sound sh) (lim : Limits) (paged : isMedium sh ≡ fa
     colds : (o : ℕ → ℕ → Bool) → Ordered o (coldFirsts (s .cold)) → Ordered (nextAt r o) (coldFirsts (t .cold))
     single : (q : ℕ) → weigh sh q each t ≤ 1
 
-  chunk-orders : (h : ℕ) (ws : List ℕ) (g : ℕ) (s : Class) (o : Option Site) → Besides s o → Tells (startsAt (pageOf g)) s o → ((q : ℕ) (k : Bool → ℕ) → SiteWeights sh q k s o) → ((q : ℕ) → weigh sh q each s ≤ 1) → fitsOn sh ws g o ≡ true
+  chunk-orders : (h : ℕ) (ws : List ℕ) (g : ℕ) (s : Class) (o : Option Site) → SitesBusy s o → Tells (startsAt (pageOf g)) s o → ((q : ℕ) (k : Bool → ℕ) → SiteWeights sh q k s o) → ((q : ℕ) → weigh sh q each s ≤ 1) → fitsOn sh ws g o ≡ true
       → ChunkOrders (pageOf g) s (settleChunk sh lim h s ws o .class)
   unfolding settleChunk
   chunk-orders h ws g s none k t weight one fit = absurd (false≢true fit)
@@ -594,7 +591,7 @@ module _ (sh : Shape) (ok : Sound sh) (lim : Limits) (paged : isMedium sh ≡ fa
       let fit = and-left (chunkFits sh s ws g) (every (chunkFits sh s ws) gs) f in
       let k = Yields.chunk-law sh ok lim h s ws g o (Yields.located sh ok lim t s y) fit in
       let n = not-true (elem (pageOf g) (map pageOf gs)) (and-left (not (elem (pageOf g) (map pageOf gs))) (distinct (map pageOf gs)) d) in
-      let r = chunk-orders h ws g s o (beside t s) (locate-tells t s) (λ q m. site-weight sh q m t s) one fit in
+      let r = chunk-orders h ws g s o (site-busy t s) (locate-tells t s) (λ q m. site-weight sh q m t s) one fit in
       let ih = chunks-order h ws gs (settleChunk sh lim h s ws o .class) (r .single) (k .listed) (and-right (not (elem (pageOf g) (map pageOf gs))) (distinct (map pageOf gs)) d)
       (Yields.all-fit sh ok lim ws (pageOf g) s _ (k .skip) gs n (and-right (chunkFits sh s ws g) (every (chunkFits sh s ws) gs) f))
       in
@@ -670,10 +667,10 @@ abbrev coldAfter : Event → Tellings → Tellings
 coldAfter v bs = λ c q. sinceNext (chills c q) (draws c q) (bs c q) v
 
 abbrev laterAfter : Event → Orders → Orders
-laterAfter v os = λ c i j. sinceNext (follows c i j) (touches c j) (os c i j) v
+laterAfter v os = λ c i j. sinceNext (follows c i j) (releasesTo c j) (os c i j) v
 
 -- an event tells nothing if no test passes
-silent : (c : ℕ) (s : Class) (bs : Tellings) (os : Orders) (v : Event) → ((q : ℕ) → chills c q v ≡ false) → ((q : ℕ) → draws c q v ≡ false) → ((q : ℕ) → touches c q v ≡ false)
+silent : (c : ℕ) (s : Class) (bs : Tellings) (os : Orders) (v : Event) → ((q : ℕ) → chills c q v ≡ false) → ((q : ℕ) → draws c q v ≡ false) → ((q : ℕ) → releasesTo c q v ≡ false)
     → Stands (shapeOf c) s (bs c) (os c) → Stands (shapeOf c) s (coldAfter v bs c) (laterAfter v os c)
 silent c s bs os v f g t k = record {
   busy = k .busy;
@@ -728,9 +725,9 @@ module _ (size : ℕ) (H : Heap) (good : (c : ℕ) → GoodClass (shapeOf c) (H 
   unfolding classCall interact finish
   route-stands x (is-turned t) once c =
       silent c (H .classes c) bs os (eventOf x (route size H x Calls.turned))
-      (λ q. refused-named c (fated wentCold (shapeOf c) q) (names x) 3 (λ r. unfated (shapeOf c) q wentCold r 3))
-      (λ q. refused-named c (λ r z. hasBlock (shapeOf c) q (blocksOf z)) (names x) 3 (λ r. no-block c q))
-      (λ q. refused-named c (λ r z. hasBlock (shapeOf c) q (releasedBy r z)) (names x) 3 (λ r. no-block c q))
+      (λ q. refused-request c (fated wentCold (shapeOf c) q) (names x) 3 (λ r. unfated (shapeOf c) q wentCold r 3))
+      (λ q. refused-request c (λ r z. hasBlock (shapeOf c) q (blocksOf z)) (names x) 3 (λ r. no-block c q))
+      (λ q. refused-request c (λ r z. hasBlock (shapeOf c) q (releasedBy r z)) (names x) 3 (λ r. no-block c q))
       (k c)
   route-stands x (is-straight t e) once c =
       rw (direct-keeps size H x .kept) (silent c (H .classes c) bs os (eventOf x (directCall size H x)) (λ q. rw e) (λ q. rw e) (λ q. rw e) (k c))
@@ -738,7 +735,7 @@ module _ (size : ℕ) (H : Heap) (good : (c : ℕ) → GoodClass (shapeOf c) (H 
       at-class (λ j s. Stands (shapeOf j) s (coldAfter (now x d e once) bs j) (laterAfter (now x d e once) os j)) (H .classes) (d .class) _ (own x d e once) (λ j n. others x d e once j n) c
 
 stand-from : (size n : ℕ) (H : Heap) (es : List Entry) (f : ℕ → Bool) (l : ℕ → ℕ) → Inv size n H es f l → AllListed H → (bs : Tellings) (os : Orders) → AllStand H bs os → (xs : List Call)
-    → AllStand (heapFrom size H xs) (λ c q. sinceFrom (chills c q) (draws c q) (bs c q) (eventsFrom size H xs)) (λ c i j. sinceFrom (follows c i j) (touches c j) (os c i j) (eventsFrom size H xs))
+    → AllStand (heapFrom size H xs) (λ c q. sinceFrom (chills c q) (draws c q) (bs c q) (eventsFrom size H xs)) (λ c i j. sinceFrom (follows c i j) (releasesTo c j) (os c i j) (eventsFrom size H xs))
 unfolding step
 stand-from size n H es f l inv y bs os k [] = k
 stand-from size n H es f l inv y bs os k (x ∷ xs) =
@@ -747,7 +744,7 @@ stand-from size n H es f l inv y bs os k (x ∷ xs) =
     (route-stands size H (inv .good) (inv-once size n H es f l inv) y bs os k x (goes x) (inv-once size (suc n) (step size H x .heap) _ _ _ i)) xs
 
 pub stores-observed : (size : ℕ) (rules : Rules) (xs : List Call) (c : ℕ)
-    → Stands (shapeOf c) (heapAfter size rules xs .classes c) (λ q. sinceFrom (chills c q) (draws c q) false (events size rules xs)) (λ i j. sinceFrom (follows c i j) (touches c j) false (events size rules xs))
+    → Stands (shapeOf c) (heapAfter size rules xs .classes c) (λ q. sinceFrom (chills c q) (draws c q) false (events size rules xs)) (λ i j. sinceFrom (follows c i j) (releasesTo c j) false (events size rules xs))
 unfolding newHeap
 stores-observed size rules xs c =
     stand-from size 0 (newHeap rules) [] (λ x. false) (λ x. 0) (start size rules) (λ c. record { partial = tt; empty = tt; full = tt })

@@ -37,6 +37,7 @@ use Rattle.model.proofs.Update.{update-same}
 use Rattle.model.proofs.Weights.{pageWeight, weigh, served-weight}
 use Rattle.model.proofs.RunsObserved.{each, clean, dirty, block-of, block-on, two-runs, weigh-parts}
 use Rattle.model.proofs.Yields as Yields
+use Rattle.model.proofs.Yields.{More}
 use Rattle.model.proofs.Offers.{good, once, run-counted, counted-run, clean-counted, counted-clean, spent-observed, none-partial}
 
 no-length : (l : List ℕ) → length l ≡ 0 → isNil l ≡ true
@@ -96,9 +97,6 @@ module _ (sh : Shape) (ok : Sound sh) (lim : Limits) where
   pub later : {v : Bool} {w : ℕ} (p : Page) {ps : List Page} → From v w ps → From v w (p ∷ ps)
   later p f = record { page = f .page; among = λ m. omega (arith, f .among m); block = f .block; is = f .is }
 
-  abbrev More : Page → Type 0
-  More p = hasMore sh p ≡ true
-
   -- virgin: each block is a virgin page's
   pub fill-virgin : (n : ℕ) (ps : List Page) → All (GoodPage sh) ps → fillFromList sh n ps .virgin ≡ true → (w : ℕ) → 1 ≤ count w (fillFromList sh n ps .blocks) → From true w ps
   unfolding fillFromList after
@@ -119,7 +117,7 @@ module _ (sh : Shape) (ok : Sound sh) (lim : Limits) where
     pub came : 1 ≤ count word ws
     pub from : From false word ps
 
-  pub fill-stale : (n : ℕ) (ps : List Page) → All (GoodPage sh) ps → All More ps → fillFromList sh n ps .virgin ≡ false → Stale ps (fillFromList sh n ps .blocks)
+  pub fill-stale : (n : ℕ) (ps : List Page) → All (GoodPage sh) ps → All (More sh) ps → fillFromList sh n ps .virgin ≡ false → Stale ps (fillFromList sh n ps .blocks)
   unfolding fillFromList after
   fill-stale n [] good more v = absurd (true≢false v)
   fill-stale n (p ∷ ps) good more v =
@@ -136,10 +134,10 @@ module _ (sh : Shape) (ok : Sound sh) (lim : Limits) where
 
   -- ---- what a take comes to: it is served from pages that yield, or the arena gave none
   pub data Takes (l : List ℕ) : Result → Type 0 where
-    fills : (ps es : List Page) (cs : List Cold) (fs : List Page) → All (GoodPage sh) ps → All More ps → isNil (fillFromList sh (sh .batch) ps .blocks) ≡ false → Takes l (served l (fillFromList sh (sh .batch) ps) es cs fs)
+    fills : (ps es : List Page) (cs : List Cold) (fs : List Page) → All (GoodPage sh) ps → All (More sh) ps → isNil (fillFromList sh (sh .batch) ps .blocks) ≡ false → Takes l (served l (fillFromList sh (sh .batch) ps) es cs fs)
     lacks : (fs : List Page) → Takes l (record { class = lists [] [] [] fs; answer = Calls.taken 0 l false; gives = [] })
 
-  from-one : (l : List ℕ) (p : Page) (ps es : List Page) (cs : List Cold) (fs : List Page) → All (GoodPage sh) (p ∷ ps) → All More (p ∷ ps) → Takes l (served l (fillFromList sh (sh .batch) (p ∷ ps)) es cs fs)
+  from-one : (l : List ℕ) (p : Page) (ps es : List Page) (cs : List Cold) (fs : List Page) → All (GoodPage sh) (p ∷ ps) → All (More sh) (p ∷ ps) → Takes l (served l (fillFromList sh (sh .batch) (p ∷ ps)) es cs fs)
   from-one l p ps es cs fs good more = fills (p ∷ ps) es cs fs good more (Yields.length-nil (fillFromList sh (sh .batch) (p ∷ ps) .blocks) (Yields.fill-gives sh ok lim (sh .batch) p ps (ok .gives) (more .0)))
 
   run-takes : (l : List ℕ) (fs : List Page) (g : Option ℕ) → Takes l (onRun sh l fs g)

@@ -44,22 +44,23 @@ pub length-nil : (l : List ℕ) → 1 ≤ length l → isNil l ≡ false
 length-nil [] h = absurd (omega arith)
 length-nil (x ∷ l) h = refl
 
-module _ (sh : Shape) (ok : Sound sh) (lim : Limits) where
-  abbrev More : Page → Type 0
-  More p = hasMore sh p ≡ true
+-- a page that has a block to give
+abbrev pub More : Shape → Page → Type 0
+More sh p = hasMore sh p ≡ true
 
+module _ (sh : Shape) (ok : Sound sh) (lim : Limits) where
   abbrev Less : Page → Type 0
   Less p = hasMore sh p ≡ false
 
   abbrev Again : Page → Type 0
   Again p = hasMore sh (reused sh p) ≡ true
 
-  carve-more : (b : Bool) (q : ℕ) (v : Bool) → More (carveAs sh b q v)
+  carve-more : (b : Bool) (q : ℕ) (v : Bool) → More sh (carveAs sh b q v)
   unfolding hasMore carveAs
   carve-more true q v = rw (length-nil (wordsFrom sh q 0 (sh .capacity)) (omega (arith, length-words sh q 0 (sh .capacity), ok .blocks))) refl
   carve-more false q v = lt-ltb 0 (sh .capacity) (omega (arith, ok .blocks))
 
-  return-more : (w : ℕ) (ws : List ℕ) (p : Page) → More (returned (w ∷ ws) p)
+  return-more : (w : ℕ) (ws : List ℕ) (p : Page) → More sh (returned (w ∷ ws) p)
   unfolding hasMore returned
   return-more w ws p = refl
 
@@ -72,7 +73,7 @@ module _ (sh : Shape) (ok : Sound sh) (lim : Limits) where
   retire-again p = carve-more (isMedium sh) (p .first) false
 
   -- takes: a page with more gives a block
-  pub pop-gives : (n : ℕ) (p : Page) → 1 ≤ n → More p → 1 ≤ length (pop sh n p .blocks)
+  pub pop-gives : (n : ℕ) (p : Page) → 1 ≤ n → More sh p → 1 ≤ length (pop sh n p .blocks)
   unfolding pop hasMore carvedNow
   pop-gives n p h m =
       rw (length-append, length-words, length-reverse, length-take)
@@ -80,7 +81,7 @@ module _ (sh : Shape) (ok : Sound sh) (lim : Limits) where
       (λ e. let c : ltb (p .carved) (sh .capacity) ≡ true = rw e at m in omega (arith, ltb-true (p .carved) (sh .capacity) c))
       (λ e. omega (arith, nil-length (p .free) e)))
 
-  pub fill-gives : (n : ℕ) (p : Page) (ps : List Page) → 1 ≤ n → More p → 1 ≤ length (fillFromList sh n (p ∷ ps) .blocks)
+  pub fill-gives : (n : ℕ) (p : Page) (ps : List Page) → 1 ≤ n → More sh p → 1 ≤ length (fillFromList sh n (p ∷ ps) .blocks)
   unfolding fillFromList after
   fill-gives n p ps h m = rw (ne-eqb n 0 (omega arith)) (rw length-append (omega (arith, pop-gives n p h m)))
 
@@ -93,7 +94,7 @@ module _ (sh : Shape) (ok : Sound sh) (lim : Limits) where
       (λ e. rw e tt)
       (λ e. rw e (by-cases (stays sh (pop sh n p .page)) (λ b. rw b ih) (λ b. rw b (b, ih))))
 
-  fill-more : (n : ℕ) (ps : List Page) → All More ps → All More (fillFromList sh n ps .partial)
+  fill-more : (n : ℕ) (ps : List Page) → All (More sh) ps → All (More sh) (fillFromList sh n ps .partial)
   unfolding fillFromList after
   fill-more n [] h = tt
   fill-more n (p ∷ ps) h =
@@ -102,7 +103,7 @@ module _ (sh : Shape) (ok : Sound sh) (lim : Limits) where
       (λ e. rw e h)
       (λ e. rw e (by-cases (stays sh (pop sh n p .page)) (λ b. rw b (b, ih)) (λ b. rw b ih)))
 
-  module _ (l : List ℕ) (p : Page) (ps es : List Page) (cs : List Cold) (fs : List Page) (m : More p) where
+  module _ (l : List ℕ) (p : Page) (ps es : List Page) (cs : List Cold) (fs : List Page) (m : More sh p) where
     abbrev servedFrom : Result
     servedFrom = served l (fillFromList sh (sh .batch) (p ∷ ps)) es cs fs
 
@@ -110,7 +111,7 @@ module _ (sh : Shape) (ok : Sound sh) (lim : Limits) where
     unfolding served
     served-yields = rw take-append-seam (length-nil (fillFromList sh (sh .batch) (p ∷ ps) .blocks) (fill-gives (sh .batch) p ps (ok .gives) m))
 
-    served-listed : All More ps → All Again es → All Less fs → Listed sh (servedFrom .class)
+    served-listed : All (More sh) ps → All Again es → All Less fs → Listed sh (servedFrom .class)
     unfolding served
     served-listed y z u = record {
       partial = fill-more (sh .batch) (p ∷ ps) (m, y);
@@ -118,14 +119,14 @@ module _ (sh : Shape) (ok : Sound sh) (lim : Limits) where
       full = all-append Less (fillFromList sh (sh .batch) (p ∷ ps) .full) fs (fill-less (sh .batch) (p ∷ ps)) u;
     }
 
-  pub thawed-more : (c : Cold) → More (thawed sh c)
+  pub thawed-more : (c : Cold) → More sh (thawed sh c)
   unfolding thawed
   thawed-more c = carve-more (isMedium sh) (c .first) _
 
-  pub new-more : (q : ℕ) (v : Bool) → More (carve sh q v)
+  pub new-more : (q : ℕ) (v : Bool) → More sh (carve sh q v)
   new-more q v = carve-more (isMedium sh) q v
 
-  take-yields : (l : List ℕ) (ps es : List Page) (cs : List Cold) (fs : List Page) → All More ps → All Again es → TakeYields (takeFrom sh l ps es cs fs)
+  take-yields : (l : List ℕ) (ps es : List Page) (cs : List Cold) (fs : List Page) → All (More sh) ps → All Again es → TakeYields (takeFrom sh l ps es cs fs)
   unfolding takeFrom onRun
   take-yields l (p ∷ ps) es cs fs y z = yields (served-yields l p ps es cs fs (y .0))
   take-yields l [] (e ∷ es) cs fs y z = yields (served-yields l (reused sh e) [] es cs fs (z .0))
@@ -139,7 +140,7 @@ module _ (sh : Shape) (ok : Sound sh) (lim : Limits) where
   refuse-yields : (s : Class) (n : ℕ) → TakeYields (refuse s n)
   refuse-yields s n = refuses refl
 
-  pub answer-yields : (s : Class) (h : ℕ) (l : List ℕ) → All More (s .partial) → All Again (s .empty) → TakeYields (answer sh lim s (Calls.take h l))
+  pub answer-yields : (s : Class) (h : ℕ) (l : List ℕ) → All (More sh) (s .partial) → All Again (s .empty) → TakeYields (answer sh lim s (Calls.take h l))
   unfolding answer
   answer-yields s h l y z = search (yields-cond, refuse-yields, take-yields l (s .partial) (s .empty) (s .cold) (s .full) y z)
 
@@ -171,7 +172,7 @@ module _ (sh : Shape) (ok : Sound sh) (lim : Limits) where
   pub record SiteLaw (t : Page → Bool) (s : Class) (x : Site) : Type 0 where
     pub passes : t (x .page) ≡ true
     rest : Listed sh (x .without)
-    put : (p : Page) → More p → Listed sh (x .with p)
+    put : (p : Page) → More sh p → Listed sh (x .with p)
     skips : Skips s x
 
   abbrev pub SiteLaws : (Page → Bool) → Class → Option Site → Type 0
@@ -183,11 +184,11 @@ module _ (sh : Shape) (ok : Sound sh) (lim : Limits) where
     unfolding inPartial
     partial-site none h = tt
     partial-site (some f) h =
-        let all = all-at More (f .before) (f .page) (f .behind) .0 (subst (All More) (h .is) (y .partial)) in
+        let all = all-at (More sh) (f .before) (f .page) (f .behind) .0 (subst (All (More sh)) (h .is) (y .partial)) in
         record {
           passes = h .passes;
           rest = record { partial = all .1; empty = y .empty; full = y .full };
-          put = λ p m. record { partial = all-at More (f .before) p (f .behind) .1 (m, all .1); empty = y .empty; full = y .full };
+          put = λ p m. record { partial = all-at (More sh) (f .before) p (f .behind) .1 (m, all .1); empty = y .empty; full = y .full };
           skips = partial-skips t s f h;
         }
 

@@ -24,7 +24,7 @@ use Rattle.model.specs.Held.{gained, lost, parkedAt, idleAt}
 use Rattle.model.specs.BestFit.{Commits}
 use Rattle.model.specs.HoleStore.{accepts}
 use Rattle.model.specs.Joining.{NoTwoTouch, HasRoom, JoinedWhere}
-use Rattle.model.specs.Order.{SameHeap, countless}
+use Rattle.model.specs.Order.{SameHeap, countsAside}
 use Rattle.model.specs.Yields.{Listed, TakeYields}
 use Rattle.model.specs.Offered.{Spent, NonePartial, NoneListed, Virgin}
 use Rattle.model.specs.Sources.{Turns}
@@ -46,7 +46,7 @@ pub record Joining (size : ℕ) (rules : Rules) (xs : List Call) : Type 0 where
 -- history is answered alike but for these counts in a report, with the same runs, and they go on differing in these alone
 pub record Orderless (size : ℕ) (rules : Rules) (xs ys : List Call) : Type 0 where
   pub alike : SameHeap (heapAfter size rules xs) (heapAfter size rules ys) → (zs : List Call)
-      → map (λ v. countless (v .answer)) (eventsFrom size (heapAfter size rules xs) zs) ≡ map (λ v. countless (v .answer)) (eventsFrom size (heapAfter size rules ys) zs)
+      → map (λ v. countsAside (v .answer)) (eventsFrom size (heapAfter size rules xs) zs) ≡ map (λ v. countsAside (v .answer)) (eventsFrom size (heapAfter size rules ys) zs)
   pub runs : SameHeap (heapAfter size rules xs) (heapAfter size rules ys) → (zs : List Call)
       → map (λ v. v .run) (eventsFrom size (heapAfter size rules xs) zs) ≡ map (λ v. v .run) (eventsFrom size (heapAfter size rules ys) zs)
   pub stays : SameHeap (heapAfter size rules xs) (heapAfter size rules ys) → (zs : List Call) → SameHeap (heapFrom size (heapAfter size rules xs) zs) (heapFrom size (heapAfter size rules ys) zs)

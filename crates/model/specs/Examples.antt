@@ -23,7 +23,7 @@ use Rattle.model.specs.Release.{Settled, park}
 use Rattle.model.specs.Chunks.{releaseChunks}
 use Rattle.model.specs.Arena.{ready}
 use Rattle.model.specs.Heap.{Heap, nobody, step}
-use Rattle.model.specs.Order.{countless}
+use Rattle.model.specs.Order.{countsAside}
 use Rattle.model.specs.History.{answers, heapAfter, eventsFrom}
 
 -- what is told: the class of a size; of a history, each call's answer, and the holes stored after the last; an emptied run's fate, and
@@ -54,7 +54,7 @@ onNewHeap xs zs hs = onRuled [] xs zs hs
 abbrev goneOn : List Call → List Call → Observed
 goneOn xs zs =
     let H = heapAfter 64 plainRules xs in
-    history (step 64 H report .answer ∷ map (λ v. countless (v .answer)) (eventsFrom 64 H zs)) (H .arena .store .holes)
+    history (step 64 H report .answer ∷ map (λ v. countsAside (v .answer)) (eventsFrom 64 H zs)) (H .arena .store .holes)
 
 unfoldable pub onBoth : List Call → List Call → List Call → Figures → List Hole → Figures → List Hole → List Answer → Example
 onBoth xs ys zs f hs g gs rs = record { found = both (goneOn xs zs) (goneOn ys zs); expected = both (history (reported f ∷ rs) hs) (history (reported g ∷ rs) gs) }

@@ -1,6 +1,6 @@
 -- The runs that a group release gives to the arena, by its answer (document 01: "For groups the fates stand in the groups' order"; a fate is "2 to the
 -- arena; plus 4 if retired").
---     wentBack     the pages of the groups whose fate is 2 or 6, in the groups' order
+--     groupsBack   the pages of the groups whose fate is 2 or 6, in the groups' order
 --     GroupsGive   these a group release gives, one after the other
 use Prim.Native.Nat.{ℕ}
 use mathlib.Core.Path.{_≡_}
@@ -21,12 +21,12 @@ use Rattle.model.specs.Held.{fatesIn}
 abbrev pub isBack : ℕ → Bool
 isBack v = eqb v arenaFate || eqb v (retired arenaFate)
 
-abbrev pub wentBack : List ℕ → List ℕ → List ℕ
-wentBack [] vs = []
-wentBack (g ∷ gs) [] = []
-wentBack (g ∷ gs) (v ∷ vs) = cond (isBack v) (pageOf g ∷ wentBack gs vs) (wentBack gs vs)
+abbrev pub groupsBack : List ℕ → List ℕ → List ℕ
+groupsBack [] vs = []
+groupsBack (g ∷ gs) [] = []
+groupsBack (g ∷ gs) (v ∷ vs) = cond (isBack v) (pageOf g ∷ groupsBack gs vs) (groupsBack gs vs)
 
 -- of a class of any shape, with any limits and runs
 pub record GroupsGive (sh : Shape) (lim : Limits) (s : Class) : Type 0 where
   pub gives : (h : ℕ) (ws gs fs : List ℕ) (g : Option ℕ)
-      → serve (answer sh lim s (giveChunks h ws gs fs)) g .gives ≡ wentBack gs (fatesIn (length gs) (serve (answer sh lim s (giveChunks h ws gs fs)) g .answer))
+      → serve (answer sh lim s (giveChunks h ws gs fs)) g .gives ≡ groupsBack gs (fatesIn (length gs) (serve (answer sh lim s (giveChunks h ws gs fs)) g .answer))

@@ -57,9 +57,9 @@ fated t sh q (Calls.giveBack h ws) x = hasBlock sh q ws && any t (fatesIn 0 x)
 fated t sh q (Calls.giveChunks h ws gs fs) x = fatedIn t q gs (fatesIn (length gs) x)
 
 -- ---- events of class c, for its run at q
-abbrev pub named : ℕ → (Request → Answer → Bool) → Option Named → Answer → Bool
-named c t none x = false
-named c t (some d) x = eqb (d .class) c && t (d .request) x
+abbrev pub hasRequest : ℕ → (Request → Answer → Bool) → Option Named → Answer → Bool
+hasRequest c t none x = false
+hasRequest c t (some d) x = eqb (d .class) c && t (d .request) x
 
 abbrev pub startsRun : ℕ → Option Hole → Bool
 startsRun q none = false
@@ -70,19 +70,19 @@ abbrev pub gets : ℕ → ℕ → Event → Bool
 gets c q v = isOf c (names (v .call)) && startsRun q (v .run)
 
 -- an unrefused release has a block of it
-abbrev pub touches : ℕ → ℕ → Event → Bool
-touches c q v = named c (λ r x. hasBlock (shapeOf c) q (releasedBy r x)) (names (v .call)) (v .answer)
+abbrev pub releasesTo : ℕ → ℕ → Event → Bool
+releasesTo c q v = hasRequest c (λ r x. hasBlock (shapeOf c) q (releasedBy r x)) (names (v .call)) (v .answer)
 
 -- a release gave it to the arena
 abbrev pub yieldsUp : ℕ → ℕ → Event → Bool
-yieldsUp c q v = named c (fated wentBack (shapeOf c) q) (names (v .call)) (v .answer)
+yieldsUp c q v = hasRequest c (fated wentBack (shapeOf c) q) (names (v .call)) (v .answer)
 
 -- a release parked it cold, and the discard of that call zeroed it; "a span from cold is never virgin"
 abbrev pub zeroes : Shape → ℕ → Request → Answer → Bool
 zeroes sh q r x = fated wentCold sh q r x && (discardZeroed (hostOf r) && not (isMedium sh))
 
 abbrev pub renews : ℕ → ℕ → Event → Bool
-renews c q v = gets c q v || named c (zeroes (shapeOf c) q) (names (v .call)) (v .answer)
+renews c q v = gets c q v || hasRequest c (zeroes (shapeOf c) q) (names (v .call)) (v .answer)
 
 -- one of the events passes the first test, and none after it the second
 abbrev pub Since : (Event → Bool) → (Event → Bool) → List Event → Type 0
@@ -133,7 +133,7 @@ virginOf (Calls.reported f) = false
 
 -- "not released to since it was last carved from the arena or from a cold page whose discard zeroed it"
 abbrev pub Clean : ℕ → ℕ → List Event → Type 0
-Clean c q vs = Since (renews c q) (touches c q) vs
+Clean c q vs = Since (renews c q) (releasesTo c q) vs
 
 -- the word is a block of a clean run of the class
 pub record CleanBlock (vs : List Event) (c w : ℕ) : Type 0 where

@@ -35,17 +35,17 @@ pub record SameHeap (H K : Heap) : Type 0 where
 abbrev pub withoutCounts : Figures → Figures
 withoutCounts f = record { commits = 0; reuses = 0; abandoned = 0; held = f .held; idle = f .idle; overlap = f .overlap }
 
-abbrev pub countless : Answer → Answer
-countless (refused n) = refused n
-countless (taken n l v) = taken n l v
-countless (fate n) = fate n
-countless (fates l) = fates l
-countless (run q f) = run q f
-countless noRun = noRun
-countless released = released
-countless (grown b) = grown b
-countless (contained b) = contained b
-countless (reported f) = reported (withoutCounts f)
+abbrev pub countsAside : Answer → Answer
+countsAside (refused n) = refused n
+countsAside (taken n l v) = taken n l v
+countsAside (fate n) = fate n
+countsAside (fates l) = fates l
+countsAside (run q f) = run q f
+countsAside noRun = noRun
+countsAside released = released
+countsAside (grown b) = grown b
+countsAside (contained b) = contained b
+countsAside (reported f) = reported (withoutCounts f)
 
 -- two commits, two growths, two calls that are answered alike, and go on differing in these alone
 pub record SameGiven (g d : Given) : Type 0 where
@@ -59,5 +59,5 @@ pub record SameGrown (g d : Grown) : Type 0 where
 
 pub record SameOutcome (o p : Outcome) : Type 0 where
   pub heap : SameHeap (o .heap) (p .heap)
-  pub answer : countless (o .answer) ≡ countless (p .answer)
+  pub answer : countsAside (o .answer) ≡ countsAside (p .answer)
   pub run : o .run ≡ p .run

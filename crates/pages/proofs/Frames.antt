@@ -1,6 +1,6 @@
 -- What each step on a class's pages may change: everything but the fields at which a test fails is as it was.
---     changes-linked .. changes-pop-store, changes-name, changes-carve, changes-new, changes-pushed
---     back-free        blocks that come back leave FREE until they are counted
+--     changes-link .. changes-new    the steps
+--     back-free                      blocks that come back leave FREE until they are counted
 use Rattle.facts.specs.Lists.{every}
 use Rattle.model.specs.Page.{isMedium}
 use Prim.Native.Nat.{ℕ, zero, suc, _+_, _*_, _/_, _≤_, _<_}
@@ -22,17 +22,20 @@ use Rattle.words.specs.Host.{digit}
 use Rattle.pages.specs.Runs.{nameRun}
 use Rattle.pages.specs.Stack.{descending, setOuts, pushed}
 use Rattle.pages.specs.Links.{pointNext, linked, cutOut, link, unlink, top, stored, parkRun, popStore}
-use Rattle.pages.specs.Carve.{stocked, carveAnew, outWords, bareRun, newRun}
+use Rattle.pages.specs.Carve.{carvedAtOnce, carveAnew, outWords, bareRun, newRun}
 use Rattle.pages.proofs.Descending.{small, length-descending}
 use Rattle.pages.proofs.SetOuts.{set-outs-kept}
 use Rattle.pages.proofs.Pushes.{push-changes}
 
-pub stocked-le : (sh : Shape) (k : ℕ) → k ≡ stocked sh → sh .capacity ≤ 4096 → k ≤ 4096
-stocked-le sh k e h = rw e (go (isMedium sh))
+pub at-once-le : (sh : Shape) → carvedAtOnce sh ≤ sh .capacity
+at-once-le sh = go (isMedium sh)
   where
-    go : (t : Bool) → cond t (sh .capacity) 0 ≤ 4096
-    go true = h
+    go : (t : Bool) → cond t (sh .capacity) 0 ≤ sh .capacity
+    go true = omega arith
     go false = omega arith
+
+pub at-once-few : (sh : Shape) (k : ℕ) → k ≡ carvedAtOnce sh → sh .capacity ≤ 4096 → k ≤ 4096
+at-once-few sh k e h = omega (arith, at-once-le sh)
 
 module _ (t : Field → Bool) (b : List ℕ) (c q : ℕ) (hc : ltb c 76 ≡ true) where
   -- ---- the partial list
@@ -95,8 +98,8 @@ module _ (t : Field → Bool) (b : List ℕ) (q : ℕ) (hf : t (page free q) ≡
   pub changes-carve : (sh : Shape) (v : Bool) → t (page carved q) ≡ true → sh .capacity ≤ 4096 → Changes t b (carveAnew b sh q v)
   unfolding carveAnew
   changes-carve sh v hk h =
-      let k = stocked sh in
-      let l : 0 + length (descending 0 k) ≤ 4096 = omega (arith, length-descending 0 k, stocked-le sh k refl h) in
+      let k = carvedAtOnce sh in
+      let l : 0 + length (descending 0 k) ≤ 4096 = omega (arith, length-descending 0 k, at-once-few sh k refl h) in
       changes-put t b _ (page free q) k refl hf
       (changes-put t b _ (page carved q) k refl hk
       (changes-put t b _ (page virgin q) (digit v) refl hv (push-changes b q 0 t hs (descending 0 k) l)))

@@ -10,13 +10,13 @@ use Rattle.words.specs.Host.{digit}
 use Rattle.pages.specs.Runs.{nameRun}
 use Rattle.pages.specs.Stack.{descending, push}
 
--- how many blocks carving links at once: a span's all, a small page's none
-abbrev pub stocked : Shape → ℕ
-stocked sh = cond (isMedium sh) (sh .capacity) 0
+-- how many blocks are carved at once: a span's all, a small page's none
+abbrev pub carvedAtOnce : Shape → ℕ
+carvedAtOnce sh = cond (isMedium sh) (sh .capacity) 0
 
 unfoldable pub carveAnew : List ℕ → Shape → ℕ → Bool → List ℕ
 carveAnew b sh q v =
-    put (put (put (push b q 0 (descending 0 (stocked sh))) (page virgin q) (digit v)) (page carved q) (stocked sh)) (page free q) (stocked sh)
+    put (put (put (push b q 0 (descending 0 (carvedAtOnce sh))) (page virgin q) (digit v)) (page carved q) (carvedAtOnce sh)) (page free q) (carvedAtOnce sh)
 
 -- the words of out bits that blocks below the capacity have, and of marks
 abbrev pub outWords : Shape → ℕ

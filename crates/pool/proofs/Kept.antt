@@ -27,7 +27,7 @@ use Rattle.model.proofs.Accounts.{held-le}
 use Rattle.pool.specs.Pool.{Pool, newPool, PoolCall, PoolRequest, PoolAnswer, Plan, Done, to, direct, Direct, alloc, free, trim, carry, pass, poolStep, callFor, callBy, isGranted, bring, ends, after, withStock, numberOf, refused, granted, noBlock, freed, trimmed}
 use Rattle.pool.specs.Stock.{blank}
 use Rattle.pool.specs.Observed.{requestCall, asCall, asAnswer, observedOf, poolEventsFrom, poolEvents, poolFrom, poolAfter}
-use Rattle.pool.proofs.Lives.{named, next, own-stay, own-gone, other, still-once, still-past, live-refused, names-take, names-give, take-quiet, give-quiet, request-quiet, direct-none}
+use Rattle.pool.proofs.Lives.{asNamed, next, own-stay, own-gone, other, still-once, still-past, live-refused, names-take, names-give, take-quiet, give-quiet, request-quiet, direct-none}
 use Rattle.pool.proofs.Plans.{Planned, is-turned, is-popped, is-taken, is-put, is-given, is-bare, is-trimmed, planned}
 use Rattle.pool.proofs.HeapCalls.{step-give, give-none, refused-is}
 
@@ -126,7 +126,7 @@ module _ (size : ℕ) (n k : ℕ) (P : Pool) (es gs : List Entry) (f : ℕ → B
           (λ e. rw e (omega (arith, K .split c v, own-stay k c (giveBack h (w ∷ [])) (asAnswer freed) gs v (rw e))))))
 
       -- a request that went to the heap, by one call
-      module _ (x : PoolRequest) (q : Request) (nm : names (callFor c q) ≡ some (named c q)) (qt : (a : Answer) (y : ℕ) → directNext (callFor c q) a f y ≡ f y) where
+      module _ (x : PoolRequest) (q : Request) (nm : names (callFor c q) ≡ some (asNamed c q)) (qt : (a : Answer) (y : ℕ) → directNext (callFor c q) a f y ≡ f y) where
         abbrev o : Outcome
         o = step size H (callFor c q)
 

@@ -7,9 +7,9 @@ use lib.ListN.{replicate}
 use Rattle.classes.specs.Shape.{shapeOf}
 use Rattle.classes.specs.Sizes.{granuleBytes}
 
--- no stock holds more: a place in it is 8 bits
-abbrev pub stockRoom : ℕ
-stockRoom = 255
+-- the most that COUNT says: a place in the stock is 8 bits
+abbrev pub countMax : ℕ
+countMax = 255
 
 -- 256 KiB of blocks, but 8 at least and `stockLimit` at most
 abbrev pub stockBytes : ℕ

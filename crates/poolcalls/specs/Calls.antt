@@ -17,7 +17,7 @@ use Rattle.model.specs.Release.{ofKind}
 use Rattle.calls.specs.Out.{outAt}
 use Rattle.calls.specs.Take.{Took, takeCall}
 use Rattle.calls.specs.Release.{Released, releaseBlocks}
-use Rattle.pool.specs.Stock.{stockRoom, stockMost, blank}
+use Rattle.pool.specs.Stock.{countMax, stockMost, blank}
 use Rattle.pool.specs.Pool.{PoolRequest, alloc, free, trim, PoolAnswer, refused, granted, trimmed, noBlock, freed, answered}
 use Rattle.poolcalls.specs.Stock.{countIn, entryIn, blockIn, stocked, putCount, pushed, filled}
 
@@ -47,7 +47,7 @@ blockOut (answered a) old = old
 
 -- ---- number 13: COUNT, and the ENTRY on top
 unfoldable pub countValid : List ℕ → ℕ → Bool
-countValid b c = leb (countIn b c) stockRoom
+countValid b c = leb (countIn b c) countMax
 
 unfoldable pub topValid : ℕ → List ℕ → ℕ → Bool
 topValid n b c = countValid b c && ltb (entryIn b c (countIn b c - 1)) (4096 * n)

@@ -40,7 +40,7 @@ use Rattle.refinement.proofs.ArenaReached.{Reached, reached-after}
 use Rattle.refinement.proofs.ChangePlaces.{ours}
 use Rattle.refinement.proofs.ArenaValid.{loads-number}
 use Rattle.refinement.proofs.Frames.{Only, ofClass, only-rule}
-use Rattle.refinement.proofs.Kept.{class-beside}
+use Rattle.refinement.proofs.Kept.{other-class-kept}
 use Rattle.refinement.proofs.GiveClass.{arena-only}
 use Rattle.refinement.proofs.Override.{override, override-same, PageIn, RowIn, at-word, in-page, in-slot, in-out, in-mark, in-row}
 use Rattle.refinement.proofs.LocalFill.{Home}
@@ -128,7 +128,7 @@ represents-still n b H R ok b′ h =
     let o : Only 76 b b′ = changes-mono (λ f. false) (ofClass b 76) b b′ (λ g e. absurd (false≢true e)) h in
     record {
       arena = arena-only n b b′ H 76 ok o (R .arena);
-      classes = λ c hc. class-beside c 76 (shape-sound c) hc (λ e. omega (arith, ltb-true c 76 hc)) o (R .classes c hc);
+      classes = λ c hc. other-class-kept c 76 (shape-sound c) hc (λ e. omega (arith, ltb-true c 76 hc)) o (R .classes c hc);
       rules = λ c hc. only-rule 76 o c hc (R .rules c hc);
     }
 

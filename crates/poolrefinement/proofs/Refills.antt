@@ -30,7 +30,7 @@ use Rattle.refinement.specs.Direct.{Agrees}
 use Rattle.refinement.specs.Classes.{takeReply}
 use Rattle.refinement.proofs.ArenaReached.{Reached}
 use Rattle.refinement.proofs.TakeWhole.{take-whole}
-use Rattle.pool.specs.Stock.{stockRoom, blank}
+use Rattle.pool.specs.Stock.{countMax, blank}
 use Rattle.pool.specs.Pool.{Pool, alloc, goes, carry, ends, callFor, bring, withStock, granted, noBlock}
 use Rattle.pool.specs.Observed.{requestCall, asAnswer}
 use Rattle.pool.proofs.Lives as Lives
@@ -128,7 +128,7 @@ module _ (n : ℕ) (hn : n ≤ maxPages) (P : Pool) (b : List ℕ) (R : PoolRep 
     abbrev I : PoolInv n (next .number) (suc k) P′ (next .entries) gs′ f′ (next .lost)
     I = next .holds
 
-    short : length (reverse ws) ≤ stockRoom
+    short : length (reverse ws) ≤ countMax
     short = omega (arith, length-reverse ws, took-few n P c h fine hc, length-reverse (blocksOf (o .answer)), ap length e)
 
     out : (v : ℕ) → 1 ≤ count v (reverse ws) → 1 ≤ total (is c v) (next .entries)

@@ -35,9 +35,9 @@ use Rattle.refinement.proofs.ArenaReached.{Reached}
 use Rattle.refinement.proofs.Book.{setting-of}
 use Rattle.refinement.proofs.Found.{out-here}
 use Rattle.refinement.proofs.ReleaseWhole.{release-whole}
-use Rattle.pool.specs.Stock.{stockRoom, stockMost}
+use Rattle.pool.specs.Stock.{countMax, stockMost}
 use Rattle.pool.specs.Pool.{Pool, alloc, free, trim, stays, goes, carry, ends, firstOf, callFor, isGranted, planFree, refused, granted, noBlock, freed}
-use Rattle.pool.proofs.Most.{most-room}
+use Rattle.pool.proofs.Most.{most-count}
 use Rattle.pool.proofs.Apart.{out-apart, out-low, out-word}
 use Rattle.pool.proofs.Kept.{PoolInv, grant-one}
 use Rattle.pool.proofs.HeapCalls.{step-give}
@@ -89,7 +89,7 @@ module _ (n : ℕ) (hn : n ≤ maxPages) (P : Pool) (b : List ℕ) (R : PoolRep 
 
   count-valid : countValid b c ≡ true
   unfolding countValid
-  count-valid = le-leb (countIn b c) stockRoom (rep .few)
+  count-valid = le-leb (countIn b c) countMax (rep .few)
 
   -- ---- the top
   module _ (w : ℕ) (ws : List ℕ) (e : st ≡ w ∷ ws) where
@@ -156,7 +156,7 @@ module _ (n : ℕ) (hn : n ≤ maxPages) (P : Pool) (b : List ℕ) (R : PoolRep 
     pub put-agrees : ltb (countIn b c) (stockMost c) ≡ true → PoolAgrees n (freeOn n b c h w) (carry n P c (free h w) (stays freed (w ∷ st)))
     unfolding freeOn freedOn carry
     put-agrees less =
-        let hk : countIn b c < stockRoom = omega (arith, ltb-true (countIn b c) (stockMost c) less, most-room c) in
+        let hk : countIn b c < countMax = omega (arith, ltb-true (countIn b c) (stockMost c) less, most-count c) in
         let b₁ = put b c (countIn b c) (granuleOf w) in
         let b₂ = pushed b c (granuleOf w) in
         rw (kd, out-test, not-stocked, less)

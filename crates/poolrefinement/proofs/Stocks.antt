@@ -16,7 +16,7 @@ use Rattle.words.specs.Word.{blockWord, granuleOf}
 use Rattle.classes.specs.Shape.{shapeOf}
 use Rattle.fields.specs.Field.{words, read}
 use Rattle.fields.proofs.Changes.{Changes, changes-none, changes-trans}
-use Rattle.pool.specs.Stock.{stockRoom}
+use Rattle.pool.specs.Stock.{countMax}
 use Rattle.poolcalls.specs.Stock.{countAt, entryAt, placeAt, placeBits, countIn, entryIn, placeIn, blockIn, stockFrom, stocked, putEntry, putPlace, putCount, put, pushed, putAll, filled}
 use Rattle.poolcalls.proofs.Laws.{in-stock, stock-in, place-bound, count-count, count-other, entry-count, place-count, count-entry, entry-entry, entry-same, entry-other, place-entry, count-place, entry-place, place-place, place-other}
 use Rattle.poolrefinement.specs.way.Represents.{StockRep}
@@ -95,7 +95,7 @@ whole-part n b c st r = record { same = r .same; low = r .low; placed = r .place
 
 -- COUNT is m
 module _ (n : ℕ) (b : List ℕ) (c : ℕ) (hc : ltb c 76 ≡ true) (m : ℕ) where
-  pub counted-own : 40000 ≤ length b → m ≤ stockRoom → (st : List ℕ) → PartRep n b c m st → StockRep n (putCount b c m) c st
+  pub counted-own : 40000 ≤ length b → m ≤ countMax → (st : List ℕ) → PartRep n b c m st → StockRep n (putCount b c m) c st
   counted-own long few st r =
       let b′ = putCount b c m in
       let p : countIn b′ c ≡ m = count-count b c hc m long in
@@ -113,7 +113,7 @@ below-of : (j m : ℕ) → j < suc m → (j ≡ m → ⊥) → j < m
 below-of j m h ne = by-cases (ltb j m) (λ t. ltb-true j m t) (λ t. absurd (ne (let u = ltb-false j m t in omega arith)))
 
 -- one more block
-module _ (n : ℕ) (b : List ℕ) (long : words n ≤ length b) (c : ℕ) (hc : ltb c 76 ≡ true) (m : ℕ) (hm : m < stockRoom) (g : ℕ) (lg : g < 4096 * n) where
+module _ (n : ℕ) (b : List ℕ) (long : words n ≤ length b) (c : ℕ) (hc : ltb c 76 ≡ true) (m : ℕ) (hm : m < countMax) (g : ℕ) (lg : g < 4096 * n) where
   abbrev b₁ : List ℕ
   b₁ = putEntry b c m g
 
@@ -184,7 +184,7 @@ module _ (n : ℕ) (b : List ℕ) (long : words n ≤ length b) (c : ℕ) (hc : 
       (counted-own n b c hc (t .left) (omega arith) (omega (arith, r .few, t .count)) ws
       (record { same = t .rest; low = λ k h. r .low k (omega (arith, t .count)); placed = λ k h. r .placed k (omega (arith, t .count)) }))
 
-  module _ (g : ℕ) (lg : g < 4096 * n) (hk : countIn b c < stockRoom) where
+  module _ (g : ℕ) (lg : g < 4096 * n) (hk : countIn b c < countMax) where
     pub push-own : (st : List ℕ) → StockRep n b c st → elem (blockWord (shapeOf c .kind) g) st ≡ false → StockRep n (pushed b c g) c (blockWord (shapeOf c .kind) g ∷ st)
     push-own st r out =
         counted-own n (put b c (countIn b c) g) c hc (suc (countIn b c)) (omega (arith, long-put n b long c hc (countIn b c) hk g lg)) (omega arith) (blockWord (shapeOf c .kind) g ∷ st)
@@ -199,7 +199,7 @@ Fresh n c st [] = Unit {0}
 Fresh n c st (w ∷ ws) = (w ≡ blockWord (shapeOf c .kind) (granuleOf w)) × (granuleOf w < 4096 * n) × (elem w st ≡ false) × Fresh n c (w ∷ st) ws
 
 module _ (n c : ℕ) (hc : ltb c 76 ≡ true) where
-  all-put : (ws : List ℕ) (b : List ℕ) (m : ℕ) (st : List ℕ) → words n ≤ length b → m + length ws ≤ stockRoom → PartRep n b c m st → Fresh n c st ws
+  all-put : (ws : List ℕ) (b : List ℕ) (m : ℕ) (st : List ℕ) → words n ≤ length b → m + length ws ≤ countMax → PartRep n b c m st → Fresh n c st ws
       → (length (putAll b c m ws) ≡ length b) × PartRep n (putAll b c m ws) c (m + length ws) (reverseAux ws st)
   all-put [] b m st l f r z = (refl, subst (λ j. PartRep n b c j st) (omega arith) r)
   all-put (w ∷ ws) b m st l f r z =
@@ -210,15 +210,15 @@ module _ (n c : ℕ) (hc : ltb c 76 ≡ true) where
       let t = all-put ws (put b c m g) (suc m) (w ∷ st) (omega arith) (omega arith) p′ (z .3) in
       (t .0 ∙ lp, subst (λ j. PartRep n (putAll (put b c m g) c (suc m) ws) c j (reverseAux ws (w ∷ st))) (omega arith) (t .1))
 
-  all-changes : (ws : List ℕ) (b : List ℕ) (m : ℕ) → m + length ws ≤ stockRoom → Changes (λ f. false) b (putAll b c m ws)
+  all-changes : (ws : List ℕ) (b : List ℕ) (m : ℕ) → m + length ws ≤ countMax → Changes (λ f. false) b (putAll b c m ws)
   all-changes [] b m h = changes-none (λ f. false) b
   all-changes (w ∷ ws) b m h =
       changes-trans (λ f. false) b (put b c m (granuleOf w)) (putAll b c m (w ∷ ws)) (changes-put b c m (granuleOf w) hc (omega arith)) (all-changes ws (put b c m (granuleOf w)) (suc m) (omega arith))
 
-  pub filled-changes : (ws : List ℕ) (b : List ℕ) → length ws ≤ stockRoom → Changes (λ f. false) b (filled b c ws)
+  pub filled-changes : (ws : List ℕ) (b : List ℕ) → length ws ≤ countMax → Changes (λ f. false) b (filled b c ws)
   filled-changes ws b h = changes-trans (λ f. false) b (putAll b c 0 ws) (filled b c ws) (all-changes ws b 0 (omega arith)) (changes-count (putAll b c 0 ws) c (length ws) hc)
 
-  pub filled-own : (ws : List ℕ) (b : List ℕ) → words n ≤ length b → length ws ≤ stockRoom → Fresh n c [] ws → StockRep n (filled b c ws) c (reverse ws)
+  pub filled-own : (ws : List ℕ) (b : List ℕ) → words n ≤ length b → length ws ≤ countMax → Fresh n c [] ws → StockRep n (filled b c ws) c (reverse ws)
   filled-own ws b l f z =
       let t = all-put ws b 0 [] l (omega arith) (record { same = refl; low = λ k h. absurd (omega arith); placed = λ k h. absurd (omega arith) }) z in
       counted-own n (putAll b c 0 ws) c hc (length ws) (omega (arith, t .0)) f (reverse ws) (subst (λ j. PartRep n (putAll b c 0 ws) c j (reverse ws)) (omega arith) (t .1))
@@ -233,15 +233,15 @@ module _ (n c : ℕ) (hc : ltb c 76 ≡ true) where
     off-kept b b′ p q [] o = tt
     off-kept b b′ p q (w ∷ ws) o = ((λ j l z. let h : j < countIn b d = omega arith in o .0 j h (sym (q j h) ∙ z)), off-kept b b′ p q ws (o .1))
 
-    all-other : (ws : List ℕ) (b : List ℕ) (m : ℕ) (st : List ℕ) → words n ≤ length b → m + length ws ≤ stockRoom → Fresh n c st ws → Off b ws → StockRep n b d sd → StockRep n (putAll b c m ws) d sd
+    all-other : (ws : List ℕ) (b : List ℕ) (m : ℕ) (st : List ℕ) → words n ≤ length b → m + length ws ≤ countMax → Fresh n c st ws → Off b ws → StockRep n b d sd → StockRep n (putAll b c m ws) d sd
     all-other [] b m st l f z o r = r
     all-other (w ∷ ws) b m st l f z o r =
         let g = granuleOf w in
-        let hm : m < stockRoom = omega arith in
+        let hm : m < countMax = omega arith in
         let few = r .few in
         let lp = long-put n b l c hc m hm g (z .1) in
         let ent : (j : ℕ) → j < countIn b d → entryIn (put b c m g) d j ≡ entryIn b d j = λ j h. put-entries n b l c hc m hm g (z .1) d hd e j (omega arith) in
         all-other ws (put b c m g) (suc m) (w ∷ st) (omega arith) (omega arith) (z .3) (off-kept b (put b c m g) (put-count n b l c hc m hm g (z .1) d hd e) ent ws (o .1)) (put-other n b l c hc m hm g (z .1) d hd e sd r (o .0))
 
-    pub filled-other : (ws : List ℕ) (b : List ℕ) → words n ≤ length b → length ws ≤ stockRoom → Fresh n c [] ws → Off b ws → StockRep n b d sd → StockRep n (filled b c ws) d sd
+    pub filled-other : (ws : List ℕ) (b : List ℕ) → words n ≤ length b → length ws ≤ countMax → Fresh n c [] ws → Off b ws → StockRep n b d sd → StockRep n (filled b c ws) d sd
     filled-other ws b l f z o r = counted-other n (putAll b c 0 ws) c hc (length ws) d sd e (all-other ws b 0 [] l (omega arith) z o r)

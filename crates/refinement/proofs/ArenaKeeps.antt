@@ -1,7 +1,7 @@
 -- What a step of the arena leaves of a class.
 --     step-keeps    a page of the class whose run is whole afterwards is as it was
 --     step-class    a class whose runs are whole as before is as it was
---     class-left    a class whose run in no list was given: that page is gone, the rest is as it was; class-beside-left: another class
+--     class-left    a class whose run in no list was given: that page is gone, the rest is as it was; other-class-left: another class
 use Prim.Native.Nat.{ℕ, _+_, _≤_}
 use native.Mathlib.Omega.{arith}
 use native.Mathlib.Decide.{ℕ-discrete}
@@ -76,7 +76,7 @@ module _ (n : ℕ) (b : List ℕ) (H : Heap) (rep : ArenaRep n b H) (r : Reached
         | no e ↦ rw (others c sound x (λ z. e)) (let o : _≡_ {A = ℕ} (cond (eqb x (p .first)) 1 0) 0 = rw (ne-eqb x (p .first) e) in omega (arith, cr .runs x))
       ])
 
-  pub class-beside-left : (d : ℕ) {sh′ : Shape} {k′ : Park} {ps′ xs′ ys′ fs′ : List Page} → Sound sh′ → ltb d 76 ≡ true → (d ≡ c → ⊥)
+  pub other-class-left : (d : ℕ) {sh′ : Shape} {k′ : Park} {ps′ xs′ ys′ fs′ : List Page} → Sound sh′ → ltb d 76 ≡ true → (d ≡ c → ⊥)
       → ClassRep n b d sh′ k′ ps′ xs′ ys′ fs′ → ClassRep n (given b (p .first) (sh .pages)) d sh′ k′ ps′ xs′ ys′ fs′
-  class-beside-left d sound′ hd ne cr′ =
+  other-class-left d sound′ hd ne cr′ =
       step-class (inRun (sh .pages) (p .first)) b (given b (p .first) (sh .pages)) changed sound′ hd (λ x. others d sound′ x (λ z. absurd (ne z))) cr′

@@ -1,8 +1,8 @@
 -- The classes' runs along the arena's steps: which are whole as before, which are new, which are gone. For class d below 76 with a
 -- shape of 1 page or more.
---     rep-whole       a step that passes no page to or from class d leaves its runs alone
+--     pages-whole     a step that passes no page to or from class d leaves its runs alone
 --     commit-whole    a commit for another holder is such a step; grow-whole, give-whole
---     claimed-whole, claimed-new    a commit for a class, once the run's pages name its first: the run is whole, the others as before
+--     claimed-others, claimed-new   a commit for a class, once the run's pages name its first: the others are as before, the run is whole
 --     left-whole, left-gone         a class's run is given: it is not whole any more, the others are as before
 use Prim.Native.Nat.{ℕ, suc, _+_, _≤_, _<_}
 use native.Mathlib.Omega.{arith}

@@ -23,7 +23,7 @@ use Rattle.refinement.proofs.ArenaSteps.{rep-classes}
 use Rattle.refinement.proofs.GiveClass.{arena-only}
 use Rattle.refinement.proofs.Basics.{Setting}
 use Rattle.refinement.proofs.Frames.{Only, only-rule}
-use Rattle.refinement.proofs.Kept.{class-beside}
+use Rattle.refinement.proofs.Kept.{other-class-kept}
 
 -- every class but c, and c
 pub classes-with : (n : ℕ) (b : List ℕ) (H : Heap) (c : ℕ) (s : Class) → StateRep n b c (shapeOf c) s
@@ -51,7 +51,7 @@ module _ (n : ℕ) (b : List ℕ) (H : Heap) (R : Represents n b H) where
         → Represents n b′ (heapOf (H .rules) (H .arena) (H .holder) (update (H .classes) c s))
     represents-class b′ c s h new = record {
       arena = rep-classes n b′ H (update (H .classes) c s) (arena-only n b b′ H c ok h (R .arena));
-      classes = classes-with n b′ H c s new (λ d hd ne. class-beside d c (shape-sound d) hd ne h (R .classes d hd));
+      classes = classes-with n b′ H c s new (λ d hd ne. other-class-kept d c (shape-sound d) hd ne h (R .classes d hd));
       rules = λ d hd. only-rule c h d hd (R .rules d hd);
     }
 

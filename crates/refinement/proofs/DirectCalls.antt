@@ -41,7 +41,7 @@ use Rattle.refinement.proofs.ArenaKeeps.{step-class}
 use Rattle.refinement.proofs.Reported.{Classes, report-passes, parked-same}
 
 -- what a call leaves alone of the classes: their rows, their pages' words but OWNER, and their runs
-record Beside (n : ℕ) (b b′ : List ℕ) : Type 0 where
+record LeavesClasses (n : ℕ) (b b′ : List ℕ) : Type 0 where
   pages : ℕ → Bool
   changes : Changes (isStep pages) b b′
   runs : (sh : Shape) (d x : ℕ) → 1 ≤ sh .pages → ltb d 76 ≡ true → whole n b′ sh d x ≡ whole n b sh d x
@@ -99,7 +99,7 @@ module _ (n : ℕ) (b : List ℕ) (H : Heap) (rep : ArenaRep n b H) (r : Reached
   -- ---- a call's reply is the model's, and it leaves every class alone
   record Settled (w : Reply) (o : Outcome) : Type 0 where
     agrees : Agrees (ArenaRep n) w o
-    beside : Beside n b (w .book)
+    leaves : LeavesClasses n b (w .book)
     classes : o .heap .classes ≡ H .classes
     rules : o .heap .rules ≡ H .rules
 
@@ -113,7 +113,7 @@ module _ (n : ℕ) (b : List ℕ) (H : Heap) (rep : ArenaRep n b H) (r : Reached
   settle-same : (k : ℕ) → (k ≡ 13 → ⊥) → (x : Answer) → Settled (record { code = k; answer = x; book = b }) (unchanged H x)
   settle-same k ne x = record {
     agrees = record { answer = refl; valid = ne; heap = rep };
-    beside = record { pages = λ x. false; changes = changes-none (isStep (λ x. false)) b; runs = λ sh d x l hd. refl };
+    leaves = record { pages = λ x. false; changes = changes-none (isStep (λ x. false)) b; runs = λ sh d x l hd. refl };
     classes = refl;
     rules = refl;
   }
@@ -131,7 +131,7 @@ module _ (n : ℕ) (b : List ℕ) (H : Heap) (rep : ArenaRep n b H) (r : Reached
       rw (commit-for n b H rep r h m (ownerCode direct))
       (record {
         agrees = record { answer = refl; valid = λ z. omega arith; heap = commit-rep n b H rep r h m one direct refl (H .classes) };
-        beside = record {
+        leaves = record {
           pages = either (passed b (g .arena)) (inRunOf m (g .run));
           changes = committed-changes n b h m (H .arena) (r .tidy .slots) (ownerCode direct);
           runs = λ sh d x l hd. commit-whole n b H rep r h m one direct refl sh d x l (direct-other d hd);
@@ -151,7 +151,7 @@ module _ (n : ℕ) (b : List ℕ) (H : Heap) (rep : ArenaRep n b H) (r : Reached
       rw (grow-passes n b H rep r h (q + old) (new - old), rep .loads)
       (record {
         agrees = record { answer = refl; valid = λ z. omega arith; heap = grow-rep n b H rep r h (new - old) one (q + old) (H .classes) };
-        beside = record {
+        leaves = record {
           pages = either (passed b (g .arena)) (inRunOf (new - old) (grownBy (g .grew) (q + old)));
           changes = grown-changes n b h (new - old) (H .arena) (r .tidy .slots) (q + old);
           runs = λ sh d x l hd. grow-whole n b H rep r h (new - old) one (q + old) sh d x l hd;
@@ -177,7 +177,7 @@ module _ (n : ℕ) (b : List ℕ) (H : Heap) (rep : ArenaRep n b H) (r : Reached
       rw (give-valid n b H rep r q m one k)
       (record {
         agrees = record { answer = refl; valid = λ z. omega arith; heap = give-rep n b H rep r q m one k (H .classes) };
-        beside = record {
+        leaves = record {
           pages = inRun m q;
           changes = given-step n b H rep r q m one k;
           runs = λ sh d x l hd. give-whole n b H rep r q m one k sh d x l (λ y e. direct-not d (H .holder y) hd (run-direct q m one t y e));
@@ -211,7 +211,7 @@ module _ (n : ℕ) (b : List ℕ) (H : Heap) (rep : ArenaRep n b H) (r : Reached
 pub direct-represents : (n : ℕ) (b : List ℕ) (H : Heap) → Represents n b H → Reached n H → (x : Call) → Agrees (Represents n) (directReply n b x) (directCall n H x)
 direct-represents n b H rep r x =
     let s = settle-direct n b H (rep .arena) r (rep .classes) x in
-    let e = s .beside in
+    let e = s .leaves in
     let c = directReply n b x .book in
     record {
       answer = s .agrees .answer;

@@ -28,7 +28,7 @@ use Rattle.refinement.specs.way.Represents.{Holds, PageRep}
 use Rattle.refinement.proofs.Basics.{Setting}
 use Rattle.pages.proofs.Runs.{whole-in, whole-owner}
 use Rattle.pages.proofs.Kept.{whole-kept}
-use Rattle.refinement.proofs.Frames.{isData, ofClass, Only, data-owns, marked-kept, slots-kept}
+use Rattle.refinement.proofs.Frames.{isData, ofClass, Only, data-owns, out-bit-kept, slots-kept}
 use Rattle.refinement.proofs.Blocks.{map-append, map-reverse, map-take, map-drop, length-map, words-descending, fits, in-row, every-counts, top-entries-take, slots-drop}
 
 -- ---- the words
@@ -70,10 +70,10 @@ module _ {n : ℕ} {b : List ℕ} {c : ℕ} {sh : Shape} (s : Setting n b c sh) 
   hq : ltb q n ≡ true
   hq = whole-in n b (s .shape) c q (h .run)
 
-  draw-marked : (j : ℕ) → _≡_ {A = ℕ} (outBit (draw b sh q m) sh q j) (cond (eqb (count j (latest b sh q m)) 0) (outBit b sh q j) 1)
+  draw-out : (j : ℕ) → _≡_ {A = ℕ} (outBit (draw b sh q m) sh q j) (cond (eqb (count j (latest b sh q m)) 0) (outBit b sh q j) 1)
   unfolding draw
-  draw-marked j =
-      marked-kept (setOuts b q 1 (latest b sh q m)) _ sh q j (λ e. let o = in-row s j e in simp get-put-other)
+  draw-out j =
+      out-bit-kept (setOuts b q 1 (latest b sh q m)) _ sh q j (λ e. let o = in-row s j e in simp get-put-other)
       ∙ set-outs-at n b (s .long) q hq 1 refl sh (s .shape .few) (latest b sh q m) latest-fit j
 
   draw-outs : (j : ℕ) → outBit (draw b sh q m) sh q j + count j (drop m xs) ≡ digit (ltb j (k + min (m - length xs) (sh .capacity - k)))
@@ -84,8 +84,8 @@ module _ {n : ℕ} {b : List ℕ} {c : ℕ} {sh : Shape} (s : Setting n b c sh) 
       let w = latest-count j in
       let f = digit-le (ltb j (k + min (m - length xs) (sh .capacity - k))) in
       by-cases (eqb (count j (latest b sh q m)) 0)
-      (λ e. let z = eqb-true (count j (latest b sh q m)) 0 e in rw (draw-marked j, e) (omega arith))
-      (λ e. let z = eqb-false (count j (latest b sh q m)) 0 e in rw (draw-marked j, e) (omega (arith, z)))
+      (λ e. let z = eqb-true (count j (latest b sh q m)) 0 e in rw (draw-out j, e) (omega arith))
+      (λ e. let z = eqb-false (count j (latest b sh q m)) 0 e in rw (draw-out j, e) (omega (arith, z)))
 
   pub draw-holds : Holds n sh (draw b sh q m) c l q (drop m xs) (k + min (m - length xs) (sh .capacity - k)) v
   draw-holds = record {

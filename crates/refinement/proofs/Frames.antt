@@ -74,9 +74,9 @@ data-owns q h = changes-owns h (λ x. refl) (λ x. refl) refl
 
 -- ---- out bits and stacks
 module _ (b b′ : List ℕ) where
-  pub marked-kept : (sh : Shape) (q i : ℕ) → (ltb i (sh .capacity) ≡ true → get b′ (out q i) ≡ get b (out q i)) → outBit b′ sh q i ≡ outBit b sh q i
+  pub out-bit-kept : (sh : Shape) (q i : ℕ) → (ltb i (sh .capacity) ≡ true → get b′ (out q i) ≡ get b (out q i)) → outBit b′ sh q i ≡ outBit b sh q i
   unfolding outBit
-  marked-kept sh q i k = by-cases (ltb i (sh .capacity)) (λ e. rw e (k e)) (λ e. rw e)
+  out-bit-kept sh q i k = by-cases (ltb i (sh .capacity)) (λ e. rw e (k e)) (λ e. rw e)
 
   pub slots-kept : (q : ℕ) (xs : List ℕ) → ((i : ℕ) → ltb i 4096 ≡ true → get b′ (slot q i) ≡ get b (slot q i)) → Slots b q xs → Slots b′ q xs
   slots-kept q [] k s = tt

@@ -30,13 +30,13 @@ use Rattle.arena.specs.Calls.{given}
 use Rattle.arena.specs.way.Represents.{ArenaRep}
 use Rattle.refinement.specs.way.Represents.{ClassRep, StateRep, Represents}
 use Rattle.refinement.proofs.Frames.{ofClass, Only, only-rule}
-use Rattle.refinement.proofs.Kept.{class-beside}
+use Rattle.refinement.proofs.Kept.{other-class-kept}
 use Rattle.refinement.proofs.ArenaReached.{Reached, heapOf}
 use Rattle.refinement.proofs.ArenaValid.{loads-frontier}
 use Rattle.refinement.proofs.ArenaFrames.{step-rule}
 use Rattle.refinement.proofs.ArenaSteps.{isArenas, rep-kept}
 use Rattle.refinement.proofs.ArenaRuns.{given-step}
-use Rattle.refinement.proofs.ArenaKeeps.{class-left, class-beside-left}
+use Rattle.refinement.proofs.ArenaKeeps.{class-left, other-class-left}
 use Rattle.refinement.proofs.GiveRep.{give-rep}
 
 -- ---- a class's fields are not the arena's
@@ -96,8 +96,8 @@ module _ (n : ℕ) (b₀ : List ℕ) (H : Heap) (rep : Represents n b₀ H) (r :
         classes = λ d hd. elim (ℕ-discrete d c) [
           | yes e ↦ rw (eq-eqb d c e) (subst (λ (z : ℕ). StateRep n (given b (p .first) (shapeOf c .pages)) z (shapeOf z) s) (sym e)
               (class-left n b H rep′ r c hc (shape-sound c) p cr page-held))
-          | no e ↦ rw (ne-eqb d c e) (class-beside-left n b H rep′ r c hc (shape-sound c) p cr page-held d (shape-sound d) hd e
-              (class-beside d c (shape-sound d) hd e only (rep .classes d hd)))
+          | no e ↦ rw (ne-eqb d c e) (other-class-left n b H rep′ r c hc (shape-sound c) p cr page-held d (shape-sound d) hd e
+              (other-class-kept d c (shape-sound d) hd e only (rep .classes d hd)))
         ];
         rules = λ d hd. step-rule (inRun m (p .first)) b (given b (p .first) m) (given-step n b H rep′ r (p .first) m (shape-sound c .paged) page-held) d hd (only-rule c only d hd (rep .rules d hd));
       }

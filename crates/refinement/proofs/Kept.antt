@@ -1,9 +1,9 @@
 -- What of the representation a change leaves alone.
 --     Ties            a page's links are as they were
---     Keeps           a page of a class is as it was, and the class's
---     class-now       a class whose row and listed pages are as they were, with other pages in no list
---     class-kept      a class that is as it was
---     class-beside    what changes only words of class d leaves every other class alone
+--     Keeps               a page of a class is as it was, and the class's
+--     class-now           a class whose row and listed pages are as they were, with other pages in no list
+--     class-kept          a class that is as it was
+--     other-class-kept    what changes only words of class d leaves every other class alone
 use Prim.Native.Nat.{ℕ, suc, _+_, _≤_}
 use native.Mathlib.Omega.{arith}
 use mathlib.Core.Bool.{Bool, true, false, cond}
@@ -29,7 +29,7 @@ use Rattle.pages.specs.Links.{other, top, stored}
 use Rattle.refinement.specs.way.Chain.{In, Chain, Line, Stack}
 use Rattle.refinement.specs.way.Represents.{Holds, PageRep, Parked, firsts, heads, ClassRep}
 use Rattle.refinement.proofs.Lists.{segment-kept, in-count, all-along}
-use Rattle.refinement.proofs.Frames.{Only, only-owns, marked-kept, slots-kept}
+use Rattle.refinement.proofs.Frames.{Only, only-owns, out-bit-kept, slots-kept}
 
 pub record Ties (q : ℕ) (b b′ : List ℕ) : Type 0 where
   pub fore : get b′ (page next q) ≡ get b (page next q)
@@ -42,8 +42,8 @@ pub record Keeps (n : ℕ) (sh : Shape) (c : ℕ) (b b′ : List ℕ) (q : ℕ) 
   pub run : whole n b′ sh c q ≡ true
 
 -- ---- one page
-pub marked-same : {sh : Shape} → Sound sh → {b b′ : List ℕ} {q : ℕ} → Body q b b′ → (i : ℕ) → outBit b′ sh q i ≡ outBit b sh q i
-marked-same {sh} sound {b} {b′} {q} y i = marked-kept b b′ sh q i (λ e. y .outs i (lt-ltb i 4096 (omega (arith, ltb-true i (sh .capacity) e, sound .few))))
+pub out-bit-same : {sh : Shape} → Sound sh → {b b′ : List ℕ} {q : ℕ} → Body q b b′ → (i : ℕ) → outBit b′ sh q i ≡ outBit b sh q i
+out-bit-same {sh} sound {b} {b′} {q} y i = out-bit-kept b b′ sh q i (λ e. y .outs i (lt-ltb i 4096 (omega (arith, ltb-true i (sh .capacity) e, sound .few))))
 
 module _ {n : ℕ} {sh : Shape} (sound : Sound sh) {c : ℕ} {b b′ : List ℕ} where
   -- as it was, but for the list that it is in
@@ -57,7 +57,7 @@ module _ {n : ℕ} {sh : Shape} (sound : Sound sh) {c : ℕ} {b b′ : List ℕ}
     ready = y .carved ∙ h .ready;
     clean = y .virgin ∙ h .clean;
     within = h .within;
-    outs = λ i. ap (λ z. z + count i xs) (marked-same sound y i) ∙ h .outs i;
+    outs = λ i. ap (λ z. z + count i xs) (out-bit-same sound y i) ∙ h .outs i;
     unmarked = λ j u. y .marks j (lt-ltb j 128 (omega (arith, sound .few))) ∙ h .unmarked j u;
   }
 
@@ -71,7 +71,7 @@ module _ {n : ℕ} {sh : Shape} (sound : Sound sh) {c : ℕ} {b b′ : List ℕ}
 
   pub parked-kept : {p : Page} → Body (p .first) b b′ → get b′ (page listed (p .first)) ≡ get b (page listed (p .first)) → whole n b′ sh c (p .first) ≡ true
       → Parked n sh b c p → Parked n sh b′ c p
-  parked-kept y e w r = record { rep = rep-kept y e w (r .rep); idle = λ i. marked-same sound y i ∙ r .idle i }
+  parked-kept y e w r = record { rep = rep-kept y e w (r .rep); idle = λ i. out-bit-same sound y i ∙ r .idle i }
 
 -- ---- linked lists
 pub line-kept : (b b′ : List ℕ) (h : ℕ) (xs : List ℕ) → ((x : ℕ) → In x xs → get b′ (page next x) ≡ get b (page next x)) → Line b h xs → Line b′ h xs
@@ -140,9 +140,9 @@ module _ (c d : ℕ) (ne : c ≡ d → ⊥) {b b′ : List ℕ} (h : Only d b b�
     run = w;
   }
 
-pub class-beside : {n : ℕ} {b b′ : List ℕ} (c d : ℕ) {sh : Shape} {k : Park} {ps xs ys fs : List Page} → Sound sh → ltb c 76 ≡ true → (c ≡ d → ⊥)
+pub other-class-kept : {n : ℕ} {b b′ : List ℕ} (c d : ℕ) {sh : Shape} {k : Park} {ps xs ys fs : List Page} → Sound sh → ltb c 76 ≡ true → (c ≡ d → ⊥)
     → Only d b b′ → ClassRep n b c sh k ps xs ys fs → ClassRep n b′ c sh k ps xs ys fs
-class-beside {n} {b} c d {sh} sound row ne h r =
+other-class-kept {n} {b} c d {sh} sound row ne h r =
     let own = only-owns d h in
     class-kept sound r (λ f. h .kept (class f c) row (not-its f)) (whole-kept own n sh c)
     (λ x e. keeps-far c d ne h x (whole-owner n b sound c x e) (whole-kept own n sh c x ∙ e))

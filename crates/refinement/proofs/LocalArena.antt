@@ -21,8 +21,8 @@ use Rattle.arena.specs.Store.{storeHoles, storeCounts, storeTop, storeArena}
 use Rattle.arena.specs.Owners.{own, ownFresh, ownRun}
 use Rattle.arena.specs.Calls.{settledArena, readyArena, arenaAs, committedArena, grownArena, grownBy, grownBook, growBook, advance, passedTo, committed, commitBook, given}
 use Rattle.pages.specs.Runs.{nameRun}
-use Rattle.pages.specs.Carve.{stocked, outWords, bareRun, newRun}
-use Rattle.pages.proofs.Frames.{stocked-le}
+use Rattle.pages.specs.Carve.{carvedAtOnce, outWords, bareRun, newRun}
+use Rattle.pages.proofs.Frames.{at-once-few}
 use Rattle.refinement.proofs.Override.{override, PageIn, at-word, get-in, put-in, put-page, put-out, put-mark}
 use Rattle.refinement.proofs.LocalPages.{carve-in}
 
@@ -171,4 +171,4 @@ module _ {S : ℕ → Bool} (d : List ℕ) where
       let b₂ = clearOut b₁ q 0 (32 * outWords sh) in
       let b₃ = clearMarks b₂ q (outWords sh) in
       rw (name-in (sh .pages) q q r b, clear-in p (32 * outWords sh) 0 few b₁, marks-in p (outWords sh) (omega arith) b₂, put-page p b₃ d listed 0)
-      (carve-in p (put b₃ (page listed q) 0) d sh true (stocked-le sh (stocked sh) refl l))
+      (carve-in p (put b₃ (page listed q) 0) d sh true (at-once-few sh (carvedAtOnce sh) refl l))

@@ -18,9 +18,9 @@ use Rattle.model.specs.Release.{Site}
 use Rattle.facts.proofs.Bools.{by-cases}
 use Rattle.pages.specs.Stack.{back, indexOf}
 use Rattle.pages.specs.declared.Park.the-variants.{Empty, Cold}
-use Rattle.pages.specs.Carve.{stocked, carveAnew}
+use Rattle.pages.specs.Carve.{carvedAtOnce, carveAnew}
 use Rattle.pages.proofs.Descending.{every-below}
-use Rattle.pages.proofs.Frames.{stocked-le}
+use Rattle.pages.proofs.Frames.{at-once-few}
 use Rattle.calls.specs.Release.{Released, unlisted, parkAs, destinationAt, parkAt, emptied, setRetired, leaves, placed, giveBackAt}
 use Rattle.calls.specs.Chunks.{chunkBackAt}
 use Rattle.refinement.proofs.Basics.{Setting}
@@ -42,7 +42,7 @@ module _ {S : ℕ → Bool} {c q : ℕ} (r : RowIn S c) (p : PageIn S q) (sh : S
   as-in b ToEmpty = rw (park-run-in r p b d Empty)
   as-in b ToCold =
       let v = discardZeroed h && not (isMedium sh) in
-      rw (carve-in p b d sh (discardZeroed h && not (isMedium sh)) (stocked-le sh (stocked sh) refl few), park-run-in r p (carveAnew b sh q v) d Cold)
+      rw (carve-in p b d sh (discardZeroed h && not (isMedium sh)) (at-once-few sh (carvedAtOnce sh) refl few), park-run-in r p (carveAnew b sh q v) d Cold)
   as-in b ToArena = refl
 
   pub park-in : (b : List ℕ) → TiesIn S b q → parkAt (override S b d) c sh h q ≡ overrideReleased S d (parkAt b c sh h q)

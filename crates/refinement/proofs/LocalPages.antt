@@ -16,7 +16,7 @@ use Rattle.facts.proofs.Bools.{by-cases, and-left, and-right}
 use Rattle.pages.specs.Stack.{topEntries, descending, setOuts, latest, draw, hasMore, push, pushed, back}
 use Rattle.pages.specs.declared.Park.{Park}
 use Rattle.pages.specs.Links.{pointNext, linked, cutOut, link, unlink, parkRun, popStore}
-use Rattle.pages.specs.Carve.{stocked, carveAnew}
+use Rattle.pages.specs.Carve.{carvedAtOnce, carveAnew}
 use Rattle.pages.proofs.Descending.{small, length-descending}
 use Rattle.pages.proofs.TopEntries.{top-entries-kept}
 use Rattle.pages.proofs.Frames.{back-free}
@@ -51,9 +51,9 @@ module _ {S : ℕ → Bool} {q : ℕ} (p : PageIn S q) (b d : List ℕ) where
   unfolding draw
   draw-in sh m h e = simp (get-page p, latest-in sh m h, marks-in 1 (latest b sh q m) e, put-page p)
 
-  pub carve-in : (sh : Shape) (v : Bool) → stocked sh ≤ 4096 → carveAnew (override S b d) sh q v ≡ override S (carveAnew b sh q v) d
+  pub carve-in : (sh : Shape) (v : Bool) → carvedAtOnce sh ≤ 4096 → carveAnew (override S b d) sh q v ≡ override S (carveAnew b sh q v) d
   unfolding carveAnew
-  carve-in sh v h = rw (push-in 0 (descending 0 (stocked sh)) (omega (arith, length-descending 0 (stocked sh)))) (simp (put-page p))
+  carve-in sh v h = rw (push-in 0 (descending 0 (carvedAtOnce sh)) (omega (arith, length-descending 0 (carvedAtOnce sh)))) (simp (put-page p))
 
   pub emptied-in : emptied (override S b d) q ≡ override S (emptied b q) d
   unfolding emptied

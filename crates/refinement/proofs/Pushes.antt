@@ -19,14 +19,14 @@ use Rattle.fields.proofs.Changes.{Changes}
 use Rattle.model.specs.Page.{isMedium, carveAs, carve}
 use Rattle.pages.specs.Runs.{whole}
 use Rattle.pages.specs.Stack.{outBit, descending, push}
-use Rattle.pages.specs.Carve.{stocked, carveAnew, outWords}
+use Rattle.pages.specs.Carve.{carvedAtOnce, carveAnew, outWords}
 use Rattle.pages.proofs.Descending.{digit-false, length-descending, small}
 use Rattle.pages.proofs.Pushes.{length-push, push-kept}
-use Rattle.pages.proofs.Frames.{changes-carve}
+use Rattle.pages.proofs.Frames.{at-once-le, changes-carve}
 use Rattle.refinement.specs.way.Represents.{Slots, Holds, PageRep}
 use Rattle.refinement.proofs.ArenaStore.{long-kept}
 use Rattle.refinement.proofs.Basics.{Setting}
-use Rattle.refinement.proofs.Frames.{isData, ofClass, Only, marked-kept}
+use Rattle.refinement.proofs.Frames.{isData, ofClass, Only, out-bit-kept}
 use Rattle.refinement.proofs.Blocks.{fits, in-row, words-descending, count-descending-zero, every-counts}
 
 -- ---- a list pushed on a stack whose top stands below t₀
@@ -55,16 +55,9 @@ module _ {n : ℕ} {b : List ℕ} {c : ℕ} {sh : Shape} (s : Setting n b c sh) 
       sums a x t e = omega arith
 
 -- ---- a run carved anew
-stocked-in : (sh : Shape) → stocked sh ≤ sh .capacity
-stocked-in sh = go (isMedium sh)
-  where
-    go : (t : Bool) → cond t (sh .capacity) 0 ≤ sh .capacity
-    go true = omega arith
-    go false = omega arith
-
 module _ {n : ℕ} {b : List ℕ} {c : ℕ} {sh : Shape} (s : Setting n b c sh) (q : ℕ) (u : Bool) where
-  room : 0 + length (descending 0 (stocked sh)) ≤ 4096
-  room = omega (arith, length-descending 0 (stocked sh), stocked-in sh, s .shape .few)
+  room : 0 + length (descending 0 (carvedAtOnce sh)) ≤ 4096
+  room = omega (arith, length-descending 0 (carvedAtOnce sh), at-once-le sh, s .shape .few)
 
   anew-changes : (t : Field → Bool) → t (page free q) ≡ true → t (page carved q) ≡ true → t (page virgin q) ≡ true → ((i : ℕ) → t (slot q i) ≡ true)
       → Changes t b (carveAnew b sh q u)
@@ -78,31 +71,31 @@ module _ {n : ℕ} {b : List ℕ} {c : ℕ} {sh : Shape} (s : Setting n b c sh) 
       let e : eqb (get b (page owner q)) (suc c) ≡ true = eq-eqb _ _ o in
       anew-changes (ofClass b c) e e e (λ i. e)
 
-  pub anew-marked : (j : ℕ) → outBit (carveAnew b sh q u) sh q j ≡ outBit b sh q j
+  pub anew-out : (j : ℕ) → outBit (carveAnew b sh q u) sh q j ≡ outBit b sh q j
   unfolding carveAnew
-  anew-marked j =
-      marked-kept b (carveAnew b sh q u) sh q j
-      (λ e. let o = in-row s j e in simp get-put-other (push-kept b q 0 (descending 0 (stocked sh)) room (out q j) o refl))
+  anew-out j =
+      out-bit-kept b (carveAnew b sh q u) sh q j
+      (λ e. let o = in-row s j e in simp get-put-other (push-kept b q 0 (descending 0 (carvedAtOnce sh)) room (out q j) o refl))
 
   -- the run's words, where no block is out, whatever they said of its blocks
   pub anew-holds : {l : ℕ} → ltb q n ≡ true → whole n (carveAnew b sh q u) sh c q ≡ true → get b (page listed q) ≡ l → ((i : ℕ) → outBit b sh q i ≡ 0) → ((j : ℕ) → j < outWords sh → get b (mark q j) ≡ 0)
-      → Holds n sh (carveAnew b sh q u) c l q (descending 0 (stocked sh)) (stocked sh) u
+      → Holds n sh (carveAnew b sh q u) c l q (descending 0 (carvedAtOnce sh)) (carvedAtOnce sh) u
   unfolding carveAnew
   anew-holds hq run listing idle unmarked =
-      let b₁ = push b q 0 (descending 0 (stocked sh)) in
-      let hb₁ = long-kept n b (push b q 0 (descending 0 (stocked sh))) (length-push b q 0 (descending 0 (stocked sh))) (s .long) in
-      let low : every (fits sh) (descending 0 (stocked sh)) ≡ true
-      = every-counts (sh .capacity) (descending 0 (stocked sh)) (λ j z. omega (arith, count-descending-zero j (stocked sh), digit-false j (stocked sh) (omega (arith, stocked-in sh)))) in
+      let b₁ = push b q 0 (descending 0 (carvedAtOnce sh)) in
+      let hb₁ = long-kept n b (push b q 0 (descending 0 (carvedAtOnce sh))) (length-push b q 0 (descending 0 (carvedAtOnce sh))) (s .long) in
+      let low : every (fits sh) (descending 0 (carvedAtOnce sh)) ≡ true
+      = every-counts (sh .capacity) (descending 0 (carvedAtOnce sh)) (λ j z. omega (arith, count-descending-zero j (carvedAtOnce sh), digit-false j (carvedAtOnce sh) (omega (arith, at-once-le sh)))) in
       record {
         run = run;
-        listing = simp get-put-other (push-kept b q 0 (descending 0 (stocked sh)) room (page listed q) refl refl ∙ listing);
-        height = simp (get-put-same n, length-put, hb₁) (sym (length-descending 0 (stocked sh)));
-        slots = slots-under b₁ _ q (descending 0 (stocked sh)) (λ j w o. simp get-put-other)
-            (subst (λ (xs : List ℕ). Slots b₁ q xs) (append-nil (descending 0 (stocked sh))) (push-slots s q hq [] (descending 0 (stocked sh)) 0 refl room low tt));
+        listing = simp get-put-other (push-kept b q 0 (descending 0 (carvedAtOnce sh)) room (page listed q) refl refl ∙ listing);
+        height = simp (get-put-same n, length-put, hb₁) (sym (length-descending 0 (carvedAtOnce sh)));
+        slots = slots-under b₁ _ q (descending 0 (carvedAtOnce sh)) (λ j w o. simp get-put-other)
+            (subst (λ (xs : List ℕ). Slots b₁ q xs) (append-nil (descending 0 (carvedAtOnce sh))) (push-slots s q hq [] (descending 0 (carvedAtOnce sh)) 0 refl room low tt));
         ready = simp (get-put-other, get-put-same n, length-put, hb₁);
         clean = simp (get-put-other, get-put-same n, hb₁);
-        within = stocked-in sh;
-        outs = λ j. omega (arith, anew-marked j, idle j, count-descending-zero j (stocked sh));
+        within = at-once-le sh;
+        outs = λ j. omega (arith, anew-out j, idle j, count-descending-zero j (carvedAtOnce sh));
         unmarked = λ j w. anew-data .kept (mark q j) (lt-ltb j 128 (omega (arith, s .shape .few))) refl ∙ unmarked j w;
       }
 
@@ -116,7 +109,7 @@ module _ (sh : Shape) (q : ℕ) (u : Bool) where
       go true = refl
       go false = refl
 
-  pub carve-rep : {n : ℕ} {b : List ℕ} {c l : ℕ} → Holds n sh b c l q (descending 0 (stocked sh)) (stocked sh) u → PageRep n sh b c l (carve sh q u)
+  pub carve-rep : {n : ℕ} {b : List ℕ} {c l : ℕ} → Holds n sh b c l q (descending 0 (carvedAtOnce sh)) (carvedAtOnce sh) u → PageRep n sh b c l (carve sh q u)
   unfolding carveAs
   carve-rep {n} {b} {c} {l} h = go (isMedium sh) h
     where

@@ -38,7 +38,7 @@ use Rattle.pages.proofs.Runs.{whole-in, whole-owner}
 use Rattle.pages.proofs.Kept.{whole-kept}
 use Rattle.refinement.proofs.Frames.{ofClass, Only, only-trans, only-rule, data-owns}
 use Rattle.refinement.proofs.Moves.{swap, at-full, to-store, park-run-only}
-use Rattle.refinement.proofs.Pushes.{anew-data, anew-only, anew-marked, anew-holds, carve-first, carve-rep}
+use Rattle.refinement.proofs.Pushes.{anew-data, anew-only, anew-out, anew-holds, carve-first, carve-rep}
 use Rattle.refinement.proofs.Found.{Away, Placed, among, aside, placed-rep, placed-data, placed-out, out-only, placed-in, in-only}
 use Rattle.refinement.proofs.Returned.{none-is, none-idle, return-data, return-only, return-rep, blank, emptied-data, emptied-only, emptied-rep}
 
@@ -103,7 +103,7 @@ module _ {n : ℕ} {b : List ℕ} {c : ℕ} {sh : Shape} (s : Setting n b c sh) 
       let rep₁ = carve-rep sh q u (anew-holds s q u (whole-in n b (s .shape) c q run) (whole-kept (data-owns q ch) n sh c q ∙ run) (r .fulls .0 .holds .listing) idle (r .fulls .0 .holds .unmarked)) in
       let r₁ = at-full s p p₁ first ch r rep₁ in
       let idle₁ : (i : ℕ) → outBit (carveAnew b sh (p .first) (discardZeroed h && not (isMedium sh))) sh (carve sh (p .first) (discardZeroed h && not (isMedium sh)) .first) i ≡ 0
-      = λ i. ap (λ z. outBit b₁ sh z i) first ∙ anew-marked s q u i ∙ idle i in
+      = λ i. ap (λ z. outBit b₁ sh z i) first ∙ anew-out s q u i ∙ idle i in
       let r₂ = swap (to-store s₁ (record { rep = rep₁; idle = idle₁ }) (omega (arith, length-firsts (thawed sh) (t .cold))) (swap r₁)) in
       let r₃ = subst (λ z. ClassRep n (parkRun b₁ c Cold z) c sh Empty (t .partial) (map (reused sh) (t .empty)) (p₁ ∷ map (thawed sh) (t .cold)) (zs ++ t .full)) first r₂ in
       stays (cold-stays sh)

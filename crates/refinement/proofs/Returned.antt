@@ -34,7 +34,7 @@ use Rattle.refinement.proofs.ArenaStore.{long-kept}
 use Rattle.refinement.proofs.Basics.{Setting, setting-kept, digit-le, digit-false, digit-cases}
 use Rattle.pages.proofs.Runs.{whole-in, whole-owner}
 use Rattle.pages.proofs.Kept.{whole-kept}
-use Rattle.refinement.proofs.Frames.{isData, ofClass, Only, data-owns, marked-kept, slots-kept}
+use Rattle.refinement.proofs.Frames.{isData, ofClass, Only, data-owns, out-bit-kept, slots-kept}
 use Rattle.refinement.proofs.Blocks.{map-append, length-map, fits, in-row, few-counts, every-counts}
 use Rattle.refinement.proofs.Pushes.{push-slots, slots-under}
 use Rattle.refinement.proofs.Draw.{free-length}
@@ -85,10 +85,10 @@ module _ {n : ℕ} {b : List ℕ} {c : ℕ} {sh : Shape} (s : Setting n b c sh) 
   hq : ltb q n ≡ true
   hq = whole-in n b (s .shape) c q (h .run)
 
-  back-marked : (j : ℕ) → _≡_ {A = ℕ} (outBit (back b q is) sh q j) (cond (eqb (count j is) 0) (outBit b sh q j) 0)
+  back-out : (j : ℕ) → _≡_ {A = ℕ} (outBit (back b q is) sh q j) (cond (eqb (count j is) 0) (outBit b sh q j) 0)
   unfolding cleared
-  back-marked j =
-      marked-kept cleared (back b q is) sh q j (λ e. let o = in-row s j e in rw back-is (simp get-put-other (push-kept cleared q (get b (page free q)) is room (out q j) o refl)))
+  back-out j =
+      out-bit-kept cleared (back b q is) sh q j (λ e. let o = in-row s j e in rw back-is (simp get-put-other (push-kept cleared q (get b (page free q)) is room (out q j) o refl)))
       ∙ set-outs-at n b (s .long) q hq 0 refl sh (s .shape .few) is back-fit j
 
   back-outs : (j : ℕ) → outBit (back b q is) sh q j + count j (is ++ xs) ≡ digit (ltb j k)
@@ -97,8 +97,8 @@ module _ {n : ℕ} {b : List ℕ} {c : ℕ} {sh : Shape} (s : Setting n b c sh) 
       let u = outs j in
       let f = digit-le (ltb j k) in
       by-cases (eqb (count j is) 0)
-      (λ e. let z = eqb-true (count j is) 0 e in rw (back-marked j, e, count-append) (omega arith))
-      (λ e. let z = eqb-false (count j is) 0 e in rw (back-marked j, e, count-append) (omega (arith, z)))
+      (λ e. let z = eqb-true (count j is) 0 e in rw (back-out j, e, count-append) (omega arith))
+      (λ e. let z = eqb-false (count j is) 0 e in rw (back-out j, e, count-append) (omega (arith, z)))
 
   pub back-holds : Holds n sh (back b q is) c l q (is ++ xs) k false
   back-holds =
@@ -246,7 +246,7 @@ module _ {n : ℕ} {b : List ℕ} {c : ℕ} {sh : Shape} (s : Setting n b c sh) 
   module _ (idle : (i : ℕ) → outBit b sh q i ≡ 0) where
     pub emptied-idle : (i : ℕ) → outBit (emptied b q) sh q i ≡ 0
     unfolding emptied
-    emptied-idle i = marked-kept b (emptied b q) sh q i (λ e. let o = in-row s i e in simp get-put-other) ∙ idle i
+    emptied-idle i = out-bit-kept b (emptied b q) sh q i (λ e. let o = in-row s i e in simp get-put-other) ∙ idle i
 
     pub emptied-rep : PageRep n sh (emptied b q) c l (blank q)
     unfolding emptied

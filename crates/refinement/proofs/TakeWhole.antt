@@ -44,7 +44,7 @@ use Rattle.refinement.proofs.ArenaReached.{Reached, heapOf, reached-aft
 use Rattle.refinement.proofs.CommitRep.{commit-for}
 use Rattle.refinement.proofs.Basics.{Setting, setting-kept}
 use Rattle.refinement.proofs.Frames.{Only, only-trans, only-rule}
-use Rattle.refinement.proofs.Kept.{class-beside}
+use Rattle.refinement.proofs.Kept.{other-class-kept}
 use Rattle.refinement.proofs.Moves.{to-partial, link-only}
 use Rattle.refinement.proofs.Fill.{FillRep, fills}
 use Rattle.refinement.proofs.Take.{TakeRep, did, asked, take-own}
@@ -132,7 +132,7 @@ module _ (n : ℕ) (b : List ℕ) (H : Heap) (R : Represents n b H) (ok : Reache
             arena = arena-only n b₂ _ (heapOf (H .rules) (grant .arena) (passTo (class c) (covers (sh .pages) q) (H .holder)) cs) c (new-reached n b H R ok c hc h q e cs) only
                 (new-arena n b H R ok c hc h q e cs);
             classes = classes-with n _ H c s′ (f .rep)
-                (λ d hd ne. class-beside d c (shape-sound d) hd ne only (others-stay n b H R ok c hc h q e d hd ne (R .classes d hd)));
+                (λ d hd ne. other-class-kept d c (shape-sound d) hd ne only (others-stay n b H R ok c hc h q e d hd ne (R .classes d hd)));
             rules = λ d hd. only-rule c only d hd (new-rule n b H R ok c hc h q e d hd (R .rules d hd));
           };
         }

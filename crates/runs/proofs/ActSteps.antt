@@ -16,7 +16,7 @@ use Rattle.runs.specs.declared.record.Draw.{Draw}
 use Rattle.runs.specs.declared.record.Gain.{Gain}
 use Rattle.model.specs.declared.Hole.{Hole}
 use Rattle.model.specs.HoleStore.{hole}
-use Rattle.runs.specs.declared.Request.{Request}
+use Rattle.runs.specs.declared.ArenaRequest.{ArenaRequest}
 use Rattle.runs.specs.declared.Commit.{Commit}
 use Rattle.runs.specs.declared.Commit.the-variants.{Run, Nothing}
 use Rattle.runs.specs.way.Change.{drawnBy, gainedBy}
@@ -87,7 +87,7 @@ module _ (b : List ℕ) (a : Arena) (m i : ℕ) (g : Hole) (here : g ≡ loadHol
   unfolding drawRecord
   draw-count l = by-cases (ltb m (loadHole b i .pages)) (λ t. rw t l) (λ t. rw t (omega arith))
 
-  module _ (x : List ℕ) (k : ℕ) (q : Request) (d : Draws b a m i x k) (e : q .pages ≡ m) (rq : RequestIn b q) (ra : RecordIn (q .size) a) (rh : HoleIn a i (loadHole b i) m) where
+  module _ (x : List ℕ) (k : ℕ) (q : ArenaRequest) (d : Draws b a m i x k) (e : q .pages ≡ m) (rq : RequestIn b q) (ra : RecordIn (q .size) a) (rh : HoleIn a i (loadHole b i) m) where
     long : length x ≡ length b
     long = ap length (d .book) ∙ draw-length
 
@@ -124,7 +124,7 @@ module _ (b : List ℕ) (a : Arena) (m i : ℕ) (g : Hole) (here : g ≡ loadHol
         }
 
 -- ---- no hole
-module _ (b : List ℕ) (a : Arena) (q : Request) (rq : RequestIn b q) (ra : RecordIn (q .size) a) (l : a .frontier + q .pages ≤ q .size) where
+module _ (b : List ℕ) (a : Arena) (q : ArenaRequest) (rq : RequestIn b q) (ra : RecordIn (q .size) a) (l : a .frontier + q .pages ≤ q .size) where
   pub frontier-run : RunIn b (a .frontier) q
   frontier-run = let h₁ = rq .long in let h₂ = rq .small in record { long = omega arith; near = omega arith; owned = rq .owned }
 

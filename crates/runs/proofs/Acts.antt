@@ -1,4 +1,4 @@
--- What the code writes (specs/Act) is the model's step with the whole arena stored (specs/Calls).
+-- What the code writes (specs/way/Act) is the model's step with the whole arena stored (arena, specs/Calls).
 --     Stands               a book with the record still to be written stands for the model's arena: the record stored, it is the arena stored
 --     stands-loaded, stands-status, stands-frontier, stands-counted, give-stands, drawn     each step keeps it
 --     commit-acts          a commit, on any words long enough

@@ -1,8 +1,8 @@
 // A commit: the plan reads and tests, the act writes, and nothing fails in it any more.
 use super::Arena;
+use super::ArenaRequest;
 use super::Back;
 use super::Commit;
-use super::Request;
 use super::give;
 use super::holes::hole_from;
 use super::owners;
@@ -43,7 +43,7 @@ fn end_none(meta: &mut [u32], a: Arena, state: u32)
 }
 
 // The run is the owner's, and counts as held.
-fn end_run(meta: &mut [u32], a: Arena, d: Draw, first: u32, q: Request)
+fn end_run(meta: &mut [u32], a: Arena, d: Draw, first: u32, q: ArenaRequest)
     requires { ⌜ (a .frontier + d .ahead < 2 ^ 32) × (d .cut ≤ a .total) × RunIn (now meta) first q ⌝ }
     ensures { λ _. ⌜ now (meta .exit) ≡ put (own (storeRecord (now (meta .entry)) (drawnBy d a)) first (q .pages) (q .owner)) (arena held) (q .held + q .pages) ⌝ }
 {
@@ -62,7 +62,7 @@ fn end_given(meta: &mut [u32], mut a: Arena, d: Draw, run: Back)
 }
 
 // A run at the frontier is fresh; its pages are nobody's if it is given.
-pub fn from_frontier(meta: &mut [u32], a: Arena, state: u32, q: Request) -> Commit
+pub fn from_frontier(meta: &mut [u32], a: Arena, state: u32, q: ArenaRequest) -> Commit
     requires { ⌜ RequestIn (now meta) q × RecordIn (q .size) a × (commitGranted (q .host) ≡ false → a .frontier + q .pages ≤ q .size → EndsIn (now meta) a) ⌝ }
     ensures { λ r. ⌜ Answers r (now (meta .exit)) (fromFrontier (q .size) (now (meta .entry)) (withState state a) (q .pages) (q .host) (q .owner) (q .held)) ⌝ }
 {
@@ -106,7 +106,7 @@ fn draw(meta: &mut [u32], a: Arena, i: u32, x: Hole, pages: u32) -> u32
     a.count - 1
 }
 
-fn from_hole(meta: &mut [u32], a: Arena, state: u32, i: u32, q: Request) -> Commit
+fn from_hole(meta: &mut [u32], a: Arena, state: u32, i: u32, q: ArenaRequest) -> Commit
     requires { ⌜ RequestIn (now meta) q × RecordIn (q .size) a × HoleIn a i (loadHole (now meta) i) (q .pages) × EndsIn (now meta) a ⌝ }
     ensures { λ r. ⌜ Answers r (now (meta .exit)) (holeDrawn (now (meta .entry)) (withState state a) i (q .pages) (q .host) (q .owner) (q .held)) ⌝ }
 {
@@ -134,7 +134,7 @@ fn from_hole(meta: &mut [u32], a: Arena, state: u32, i: u32, q: Request) -> Comm
     Commit::Nothing
 }
 
-fn commit_drawn(meta: &mut [u32], a: Arena, state: u32, code: u32, q: Request) -> Commit
+fn commit_drawn(meta: &mut [u32], a: Arena, state: u32, code: u32, q: ArenaRequest) -> Commit
     requires { ⌜ RequestIn (now meta) q × RecordIn (q .size) a × PlanIn (now meta) a code (q .pages) × EndsIn (now meta) a ⌝ }
     ensures { λ r. ⌜ Answers r (now (meta .exit)) (commitDrawn (q .size) (now (meta .entry)) (withState state a) code (q .pages) (q .host) (q .owner) (q .held)) ⌝ }
 {
@@ -158,7 +158,7 @@ fn next_state(state: u32, host: u32) -> u32
 }
 
 // The chosen hole has this code; 0 is none.
-pub fn commit_planned(meta: &mut [u32], a: Arena, code: u32, q: Request) -> Commit
+pub fn commit_planned(meta: &mut [u32], a: Arena, code: u32, q: ArenaRequest) -> Commit
     requires { ⌜ RequestIn (now meta) q × RecordIn (q .size) a × PlanIn (now meta) a code (q .pages) × EndsIn (now meta) a ⌝ }
     ensures { λ r. ⌜ Answers r (now (meta .exit)) (commitPlanned (q .size) (now (meta .entry)) a code (q .pages) (q .host) (q .owner) (q .held)) ⌝ }
 {

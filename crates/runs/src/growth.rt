@@ -1,7 +1,7 @@
 // A growth at the frontier: the added pages are settled as a commit of them is.
 use super::Arena;
+use super::ArenaRequest;
 use super::Commit;
-use super::Request;
 use super::act;
 use super::load;
 use super::store;
@@ -17,7 +17,7 @@ ghost use Rattle.runs.specs.way.Pre.{RecordIn, EndsIn, RequestIn, BookIn
 ghost use Rattle.runs.specs.Answer.{Answers};
 
 // The run that ends at page `end` grows by the request's pages, if the frontier is there and the arena suffices.
-pub fn grow_run(meta: &mut [u32], a: Arena, end: u32, q: Request) -> Commit
+pub fn grow_run(meta: &mut [u32], a: Arena, end: u32, q: ArenaRequest) -> Commit
     requires { ⌜ RequestIn (now meta) q × RecordIn (q .size) a × (commitGranted (q .host) ≡ false → a .frontier ≡ end → a .frontier + q .pages ≤ q .size → EndsIn (now meta) a) ⌝ }
     ensures { λ r. ⌜ Answers r (now (meta .exit)) (growWith (q .size) (now (meta .entry)) a (q .host) end (q .pages) (q .owner) (q .held)) ⌝ }
 {

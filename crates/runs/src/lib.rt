@@ -38,7 +38,7 @@ pub struct Choice {
 }
 
 // What is asked of the arena: pages for an owner, in an arena of so many pages; the host word, and HELD as it was.
-pub struct Request {
+pub struct ArenaRequest {
     pub size: u32,
     pub pages: u32,
     pub host: u32,
@@ -107,7 +107,7 @@ pub fn commit_for(meta: &mut [u32], size: u32, host: u32, pages: u32, owner: u32
     if !p.valid {
         return Commit::Refused(13);
     }
-    let q = Request {
+    let q = ArenaRequest {
         size,
         pages,
         host,

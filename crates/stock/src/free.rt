@@ -12,7 +12,7 @@ use crate::out::is_out;
 use crate::places::is_stocked;
 use crate::places::push;
 use crate::query::behind;
-use crate::room::STOCK_ROOM;
+use crate::room::COUNT_MAX;
 use crate::room::is_full;
 
 // 2^62: words of one kind.
@@ -36,7 +36,7 @@ fn keep(meta: &mut [u32], n: u32, c: u32, k: u32, g: u32, w: u64) -> u32
     ensures { λ r. ⌜ Kept r (now (meta .exit)) n (now (meta .entry)) c w ⌝ }
 {
     if is_out(meta, n, c, w) {
-        if k > STOCK_ROOM {
+        if k > COUNT_MAX {
             return 13;
         }
         push(meta, n, c, k, g);

@@ -11,7 +11,7 @@ ghost use Rattle.stock.specs.way.Pre.{StockPre};
 use crate::cells::count;
 use crate::out::out_at;
 use crate::places::is_stocked;
-use crate::room::STOCK_ROOM;
+use crate::room::COUNT_MAX;
 use crate::top::block_word;
 
 // How far a word lies behind its class's first: one number tells its kind and its granule.
@@ -42,7 +42,7 @@ pub fn stocked(meta: &[u32], c: u32) -> u32
     ensures { λ r. ⌜ r ≡ stockedIn (now (meta .entry)) c ⌝ }
 {
     let k = count(meta, c);
-    if k > STOCK_ROOM {
+    if k > COUNT_MAX {
         return 0;
     }
     k

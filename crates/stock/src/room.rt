@@ -15,8 +15,8 @@ const STOCK_GRANULES: u32 = 16_384;
 // Classes below this have blocks of up to 1,024 bytes: STOCK_LIMIT of them fit 256 KiB.
 const LIMITED: u32 = 22;
 
-// No stock holds more: a place in it is 8 bits.
-pub const STOCK_ROOM: u32 = 255;
+// The most that COUNT says: a place in the stock is 8 bits.
+pub const COUNT_MAX: u32 = 255;
 
 // A stock of k blocks holds fewer than the class's most. No division: k is below a quotient if k + 1 times the divisor is at most the dividend. The class's
 // numbers are not looked at where the class alone tells.
@@ -40,7 +40,7 @@ fn has_room(c: u32, k: u32) -> bool
 pub fn is_full(c: u32, k: u32) -> bool
     ensures { λ r. ⌜ r ≡ isFull c k ⌝ }
 {
-    if k > STOCK_ROOM {
+    if k > COUNT_MAX {
         return false;
     }
     !has_room(c, k)

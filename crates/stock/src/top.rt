@@ -6,7 +6,7 @@ ghost use Rattle.classes.specs.Shape.{shapeOf};
 ghost use Rattle.poolcalls.specs.Calls.{topValid};
 ghost use Rattle.stock.specs.way.Pre.{TopPre};
 use crate::cells::entry;
-use crate::room::STOCK_ROOM;
+use crate::room::COUNT_MAX;
 use words::Word;
 
 // Number 13 for a stock of k blocks: COUNT, and the ENTRY on top.
@@ -14,7 +14,7 @@ pub fn top_valid(meta: &[u32], n: u32, c: u32, k: u32) -> bool
     requires { ⌜ TopPre (now meta) c k ⌝ }
     ensures { λ r. ⌜ r ≡ topValid n (now (meta .entry)) c ⌝ }
 {
-    if k > STOCK_ROOM {
+    if k > COUNT_MAX {
         return false;
     }
     (entry(meta, c, k - 1) as u64) < 4096 * (n as u64)

@@ -8,7 +8,6 @@ use lib.Dec.{eqb, ltb, leb}
 use lib.ListN.{length}
 use borrow.Author.Tests.{lt-ltb, le-leb, ne-eqb}
 use Rattle.facts.specs.Lists.{every}
-use Rattle.facts.proofs.Bools.{by-cases}
 use Rattle.classes.specs.declared.Shape.{Shape}
 use Rattle.classes.specs.way.Sound.{Sound}
 use Rattle.fields.specs.Field.{Field, arena, page, slot, frontier, owner, free, carved, listed, virgin, region, off, get, put, words}
@@ -18,22 +17,19 @@ use Rattle.model.specs.Page.{isMedium}
 use Rattle.words.specs.Host.{digit}
 use Rattle.pages.specs.Runs.{whole}
 use Rattle.pages.specs.Stack.{topEntries, descending, push, hasMore}
-use Rattle.pages.specs.Carve.{stocked, carveAnew, bareRun, newRun}
+use Rattle.pages.specs.Carve.{carvedAtOnce, carveAnew, bareRun, newRun}
 use Rattle.pages.proofs.Descending.{length-descending, descending-below, every-append, every-below}
 use Rattle.pages.proofs.TopEntries.{top-entries-cut, top-entries-fewer, top-entries-kept}
 use Rattle.pages.proofs.Pushes.{length-push, top-entries-push}
-use Rattle.pages.proofs.Frames.{changes-new, changes-carve}
+use Rattle.pages.proofs.Frames.{at-once-le, changes-new, changes-carve}
 use Rattle.pages.proofs.Runs.{whole-of}
 use Rattle.pages.proofs.NewRun.{new-names, bare-long, bare-listed}
 use Rattle.take.proofs.TakePages.{Valid}
 
 -- ---- what carving leaves
-pub stocked-le : (sh : Shape) → stocked sh ≤ sh .capacity
-stocked-le sh = by-cases (isMedium sh) (λ e. rw e (omega arith)) (λ e. rw e (omega arith))
-
 module _ (n : ℕ) (b : List ℕ) (hb : leb (words n) (length b) ≡ true) (sh : Shape) (few : sh .capacity ≤ 4096) (q : ℕ) (hq : ltb q n ≡ true) (v : Bool) where
   abbrev k : ℕ
-  k = stocked sh
+  k = carvedAtOnce sh
 
   pushed : List ℕ
   pushed = push b q 0 (descending 0 k)
@@ -63,7 +59,7 @@ module _ (n : ℕ) (b : List ℕ) (hb : leb (words n) (length b) ≡ true) (sh :
   unfolding pushed
   all-below =
       let l = length-descending 0 k in
-      let le = stocked-le sh in
+      let le = at-once-le sh in
       let kept : topEntries (carveAnew b sh q v) q k k ≡ topEntries pushed q k k = top-entries-kept pushed (carveAnew b sh q v) q k k (λ i h. carve-slot i (lt-ltb i 4096 (omega arith))) in
       let laid : topEntries (push b q 0 (descending 0 k)) q (length (descending 0 k) + 0) (length (descending 0 k) + 0) ≡ descending 0 k ++ topEntries b q 0 0 =
       top-entries-push n b hb q hq 0 (descending 0 k) (omega arith) (every-below k 4096 (omega arith) (descending 0 k) (descending-below 0 k k (omega arith))) in
@@ -123,10 +119,10 @@ module _ (n : ℕ) (b : List ℕ) (hb : leb (words n) (length b) ≡ true) (c : 
   unfolding hasMore
   new-more = rw (new-is, carve-free n bare bare-there sh (sd .few) q hq true, carve-carved n bare bare-there sh (sd .few) q hq true) (gives (isMedium sh))
 
-  pub new-free : get (newRun b sh q) (page free q) ≡ stocked sh
+  pub new-free : get (newRun b sh q) (page free q) ≡ carvedAtOnce sh
   new-free = rw new-is (carve-free n bare bare-there sh (sd .few) q hq true)
 
-  pub new-carved : get (newRun b sh q) (page carved q) ≡ stocked sh
+  pub new-carved : get (newRun b sh q) (page carved q) ≡ carvedAtOnce sh
   new-carved = rw new-is (carve-carved n bare bare-there sh (sd .few) q hq true)
 
   pub new-valid : (m : ℕ) → Valid n (newRun b sh q) c sh 0 m q
@@ -137,8 +133,8 @@ module _ (n : ℕ) (b : List ℕ) (hb : leb (words n) (length b) ≡ true) (c : 
       record {
         run = new-whole;
         listing = rw new-listed;
-        stack = rw (fr, ca) (le-leb (stocked sh) (stocked sh) (omega arith));
-        within = rw ca (le-leb (stocked sh) (sh .capacity) (stocked-le sh));
+        stack = rw (fr, ca) (le-leb (carvedAtOnce sh) (carvedAtOnce sh) (omega arith));
+        within = rw ca (le-leb (carvedAtOnce sh) (sh .capacity) (at-once-le sh));
         clean = rw vi;
         more = new-more;
         entries = rw (fr, ca, new-is) (carve-entries n bare bare-there sh (sd .few) q hq true m);

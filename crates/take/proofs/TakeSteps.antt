@@ -26,11 +26,12 @@ use Rattle.runs.specs.Answer.{Answers}
 use Rattle.runs.specs.way.Found.{hasRun, Finds}
 use Rattle.pages.specs.Stack.{latest}
 use Rattle.pages.specs.Links.{link, top, unparkRun}
-use Rattle.pages.specs.Carve.{stocked, newRun}
+use Rattle.pages.specs.Carve.{carvedAtOnce, newRun}
 use Rattle.pages.specs.declared.Park.{Park}
 use Rattle.pages.specs.declared.Park.the-variants.{Empty, Cold}
 use Rattle.pages.specs.way.Pre.{RowPre, UnparkRunPre, LinkPre, NewPre}
 use Rattle.pages.proofs.Draws.{latest-length}
+use Rattle.pages.proofs.Frames.{at-once-le}
 use Rattle.take.specs.declared.call.Take as Taken
 use Rattle.take.specs.declared.call.Take.the-variants as Answer
 use Rattle.take.specs.declared.take_plan.Plan.{Plan}
@@ -44,7 +45,7 @@ use Rattle.take.proofs.AnswerSteps.{into-refused, into-took}
 use Rattle.take.proofs.TakePages.{Valid}
 use Rattle.take.proofs.Fill.{foreseen, fill-planned}
 use Rattle.take.proofs.TakeAlone.{link-changes, alone-walks, alone-planned}
-use Rattle.take.proofs.TakeNew.{isNew, stocked-le, new-changes, new-free, new-carved, new-valid, new-virgin}
+use Rattle.take.proofs.TakeNew.{isNew, new-changes, new-free, new-carved, new-valid, new-virgin}
 use Rattle.take.proofs.TakeGranted.{commit-granted}
 use Rattle.take.proofs.TakeParked.{parked-unparks, unparked-pre, unparked-walks}
 
@@ -131,7 +132,7 @@ module _ (b : List ℕ) (c : ℕ) (sh : Shape) (q : ℕ) where
     run-gives =
         let fr = new-free (a .pages) b (hb a) c sh (a .pre .shape) q (a .ends) (a .under) (a .owners) in
         let ca = new-carved (a .pages) b (hb a) c sh (a .pre .shape) q (a .ends) (a .under) (a .owners) in
-        latest-length (newRun b sh q) sh q (sh .batch) ∙ rw (fr, ca) (gives (sh .batch) (stocked sh) (sh .capacity) (stocked-le sh))
+        latest-length (newRun b sh q) sh q (sh .batch) ∙ rw (fr, ca) (gives (sh .batch) (carvedAtOnce sh) (sh .capacity) (at-once-le sh))
 
     run-serves : Serves (min (sh .batch) (sh .capacity)) true (link (newRun b sh q) c q) c sh (onRunAt b c sh q)
     unfolding onRun
@@ -436,4 +437,3 @@ module _ (w : Bool) (n : ℕ) (b : List ℕ) (c h : ℕ) (l : List ℕ) (sh : Sh
 
 pub whole-pre : (n : ℕ) (b : List ℕ) (c h : ℕ) → CallPre n b c → ListPre true n b c h
 whole-pre n b c h a = record { call = a; granted = λ z. absurd (false≢true (sym z)) }
-

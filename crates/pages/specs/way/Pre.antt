@@ -73,7 +73,7 @@ pub record RunPre (b : List ℕ) (q m : ℕ) : Type 0 where
   pub there : words (q + m) ≤ length b
 
 -- ---- carving
-pub record StockPre (b : List ℕ) (q k : ℕ) : Type 0 where
+pub record PushRangePre (b : List ℕ) (q k : ℕ) : Type 0 where
   pub few : k ≤ pageSlots
   pub there : words (q + 1) ≤ length b
 

@@ -8,14 +8,14 @@ use mathlib.Core.List.{List}
 use mathlib.Core.Path.{_≡_}
 use lib.Dec.{ltb}
 use Rattle.refinement.specs.way.Represents.{Represents}
-use Rattle.pool.specs.Stock.{stockRoom}
+use Rattle.pool.specs.Stock.{countMax}
 use Rattle.pool.specs.Pool.{Pool, Done}
 use Rattle.poolcalls.specs.Stock.{countIn, entryIn, placeIn, stockIn}
 use Rattle.poolcalls.specs.Calls.{PoolReply}
 
 pub record StockRep (n : ℕ) (b : List ℕ) (c : ℕ) (st : List ℕ) : Type 0 where
   pub same : stockIn b c ≡ st
-  pub few : countIn b c ≤ stockRoom
+  pub few : countIn b c ≤ countMax
   pub low : (k : ℕ) → k < countIn b c → entryIn b c k < 4096 * n
   pub placed : (k : ℕ) → k < countIn b c → placeIn b (entryIn b c k) ≡ k
 

@@ -9,7 +9,7 @@ use Rattle.facts.specs.Lists.{every}
 use Rattle.fields.specs.Field.{hole, pages, get, words}
 use Rattle.model.specs.declared.Hole.{Hole}
 use Rattle.runs.specs.declared.Arena.{Arena}
-use Rattle.runs.specs.declared.Request.{Request}
+use Rattle.runs.specs.declared.ArenaRequest.{ArenaRequest}
 use Rattle.runs.specs.declared.Back.{Back}
 use Rattle.arena.specs.Load.{loadHole, loadHoles}
 use Rattle.arena.specs.Valid.{holeEndsValid, giveValid}
@@ -36,14 +36,14 @@ abbrev pub EndsIn : List ℕ → Arena → Type 0
 EndsIn b a = every (holeEndsValid (a .frontier)) (loadHoles b 0 (a .count)) ≡ true
 
 -- a request on a book that is long enough
-pub record RequestIn (b : List ℕ) (q : Request) : Type 0 where
+pub record RequestIn (b : List ℕ) (q : ArenaRequest) : Type 0 where
   pub long : words (q .size) ≤ length b
   pub small : q .size ≤ maxPages
   pub fits : q .pages ≤ maxPages + 1
   pub owned : q .held ≤ maxPages
 
 -- a run of a request's pages
-pub record RunIn (b : List ℕ) (first : ℕ) (q : Request) : Type 0 where
+pub record RunIn (b : List ℕ) (first : ℕ) (q : ArenaRequest) : Type 0 where
   pub long : words (first + q .pages) ≤ length b
   pub near : first + q .pages ≤ maxPages
   pub owned : q .held ≤ maxPages
