@@ -1,13 +1,6 @@
 -- What the arena's stores and the owners' writes leave as it was, and that holes that were stored are loaded again.
-use Prim.Native.Nat.{ℕ, zero, suc, _+_, _≤_, _<_}
-use native.Mathlib.Omega.{arith}
-use mathlib.Core.Bool.{Bool, true, false, _&&_}
-use mathlib.Core.List.{List, [], _∷_}
-use mathlib.Core.Path.{_≡_, refl, ap, _∙_}
-use lib.Dec.{eqb, ltb, leb}
-use lib.ListN.{length}
-use borrow.Author.Tests.{lt-ltb, ne-eqb, leb-true}
-use Rattle.facts.proofs.Bools.{by-cases, and-left, and-right, and-no}
+use Rattle.facts.proofs.Prelude.{ℕ, zero, suc, _+_, _≤_, _<_, arith, Bool, true, false, _&&_, List, [], _∷_, _≡_, refl, ap}
+use Rattle.facts.proofs.Prelude.{_∙_, eqb, ltb, leb, length, lt-ltb, ne-eqb, leb-true, by-cases, and-left, and-right, and-no}
 use Rattle.words.specs.Limits.{holeSlots}
 use Rattle.fields.specs.Field.{Field, arena, mark, class, hole, page, out, slot, ArenaField, state, frontier, holes, holePages, commits, commitsHigh, reuses, reusesHigh, abandoned, abandonedHigh, start, pages, owner, arenaOff, pageOff, put, words, HoleField, held, holeOff, get}
 use Rattle.fields.proofs.Laws.{put-put-same, put-comm, length-put, get-put-same, get-put-other}

@@ -1,13 +1,7 @@
 -- What the test of a release's blocks answers, on any book.
 --     passed, passes       it answers 0 exactly if each block is out in the class, none stands twice and none of their words of marks is set
 --     fault-marked, fault-repeats, fault-foreign    else which number
-use Prim.Native.Nat.{ℕ}
-use native.Mathlib.Omega.{arith}
-use mathlib.Core.Bool.{true, false}
-use mathlib.Core.List.{List}
-use mathlib.Core.Path.{_≡_}
-use Rattle.facts.specs.Lists.{every, distinct}
-use Rattle.facts.proofs.Bools.{by-cases}
+use Rattle.facts.proofs.Prelude.{ℕ, arith, true, false, List, _≡_, every, distinct, by-cases}
 use Rattle.classes.specs.declared.Shape.{Shape}
 use Rattle.model.proofs.Counts.{filter-all, each-once}
 use Rattle.calls.specs.Out.{outAt, unmarked, repeats, outFault}

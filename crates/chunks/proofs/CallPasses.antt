@@ -1,17 +1,8 @@
 -- The passes of a group release, once its listed blocks are taken.
 --     valid-pre, settle-pre                  what each pass asks follows from the tests before it
 --     mismatch, invalid, taken               numbers 11 and 13, and the taking
-use Prim.Native.Nat.{ℕ, _+_, _≤_, _<_}
-use native.Mathlib.Omega.{arith}
-use mathlib.Core.Bool.{Bool, true, false, cond, _&&_, _||_}
-use mathlib.Core.List.{List, [], _∷_, _++_}
-use mathlib.Core.Path.{_≡_, refl, sym, ap, _∙_}
-use lib.Dec.{eqb, ltb, leb}
-use lib.ListN.{length, drop, length-append}
-use borrow.Author.Tests.{lt-ltb, leb-true, le-leb, eq-eqb}
-use Rattle.facts.specs.Lists.{every, All}
-use Rattle.facts.proofs.Bools.{and-left, and-right, eqb-turned}
-use Rattle.facts.proofs.Lists.{every-same}
+use Rattle.facts.proofs.Prelude.{ℕ, _+_, _≤_, _<_, arith, Bool, true, false, cond, _&&_, _||_, List, [], _∷_, _++_, _≡_, refl, sym, ap, _∙_, eqb, ltb, leb}
+use Rattle.facts.proofs.Prelude.{length, drop, length-append, lt-ltb, leb-true, le-leb, eq-eqb, every, All, and-left, and-right, eqb-turned, every-same}
 use Rattle.words.specs.Word.{countOf, pageOf}
 use Rattle.classes.specs.declared.Shape.{Shape}
 use Rattle.fields.specs.Field.{Field, arena, class, page, slot, out, region, off, frontier, partial, empty, emptyCount, cold, coldCount, next, prev, free, carved, listed, get, put, words, hole, ok, emptyLimit, coldLimit}

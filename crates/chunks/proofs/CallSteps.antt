@@ -3,16 +3,8 @@
 --     refused, settled           what the call answers
 --     no-list .. wrong-chunks    numbers 7, 8 and 9
 --     small-pre                  what the call asks holds of every small class
-use Prim.Native.Nat.{ℕ, _≤_, _<_}
-use native.Mathlib.Omega.{arith}
-use mathlib.Core.Bool.{Bool, true, false, cond, not, _&&_, _||_}
-use mathlib.Core.List.{List, [], _∷_}
-use mathlib.Core.Path.{_≡_, refl, sym, _∙_}
-use lib.Dec.{eqb, ltb, leb}
-use lib.ListN.{length}
-use borrow.Author.Tests.{lt-ltb, le-ltb, le-leb, ne-eqb, eqb-true, eqb-false}
-use Rattle.facts.specs.Lists.{isNil, every}
-use Rattle.facts.proofs.Bools.{by-cases, and-left}
+use Rattle.facts.proofs.Prelude.{ℕ, _≤_, _<_, arith, Bool, true, false, cond, not, _&&_, _||_, List, [], _∷_, _≡_, refl, sym, _∙_, eqb}
+use Rattle.facts.proofs.Prelude.{ltb, leb, length, lt-ltb, le-ltb, le-leb, ne-eqb, eqb-true, eqb-false, isNil, every, by-cases, and-left}
 use Rattle.words.specs.Word.{chunkKind}
 use Rattle.classes.specs.declared.Shape.{Shape}
 use Rattle.classes.specs.Shape.{smallShape, shapeOf}

@@ -4,17 +4,8 @@
 --     match-is                         number 11, by the words' own pages
 --     fits-lands                       number 11 passed: a chunk's page is one of a listed word's
 --     slots-left                       number 13 passed: the pages' stacks have room for the listed blocks
-use Prim.Native.Nat.{ℕ, zero, suc, _+_, _≤_, _<_}
-use native.Mathlib.Omega.{arith}
-use mathlib.Core.Bool.{Bool, true, false, not, _&&_, true≢false, false≢true}
-use mathlib.Core.List.{List, [], _∷_, map}
-use mathlib.Core.Path.{_≡_, refl, ap, _∙_}
-use lib.Dec.{eqb, ltb, leb}
-use lib.ListN.{length}
-use borrow.Author.Tests.{ltb-true, lt-ltb, leb-true, eqb-true, not-true}
-use Rattle.facts.specs.Lists.{every, elem, distinct}
-use Rattle.facts.proofs.Bools.{by-cases, and-left, and-right}
-use Rattle.facts.proofs.Lists.{every-same}
+use Rattle.facts.proofs.Prelude.{ℕ, zero, suc, _+_, _≤_, _<_, arith, Bool, true, false, not, _&&_, true≢false, false≢true, List, [], _∷_, map, _≡_, refl, ap, _∙_, eqb}
+use Rattle.facts.proofs.Prelude.{ltb, leb, length, ltb-true, lt-ltb, leb-true, eqb-true, not-true, every, elem, distinct, by-cases, and-left, and-right, every-same}
 use Rattle.words.specs.Word.{countOf, pageOf}
 use Rattle.classes.specs.declared.Shape.{Shape}
 use Rattle.fields.specs.Field.{arena, class, hole, page, frontier, partial, empty, emptyCount, cold, coldCount, next, prev, free, carved, listed, virgin, get, words, emptyLimit, coldLimit}

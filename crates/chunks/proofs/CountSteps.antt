@@ -1,17 +1,7 @@
 -- The loops and ways out of run_end, count_blocks, counts_fit and what they call.
-use Prim.Native.Nat.{ℕ, suc, _+_, _-_, _^_, _≤_, _<_}
-use native.Mathlib.Omega.{arith}
-use native.Mathlib.Numerals.{add-one}
-use mathlib.Core.Bool.{Bool, true, false, cond, true≢false}
-use mathlib.Core.List.{List, [], _∷_, map}
-use mathlib.Core.Path.{_≡_, refl, sym, ap, _∙_}
-use lib.Dec.{eqb}
-use lib.ListN.{length, getD, set, drop, length-set, length-drop}
-use lib.Seq.{drop-cons, drop-drop, getD-set-same, getD-set-other}
-use borrow.Author.Tests.{ltb-true, eqb-false, eqb-true, lt-ltb, le-ltb, eq-eqb, ne-eqb}
-use Rattle.facts.specs.Lists.{every, count, below}
-use Rattle.facts.proofs.Bools.{by-cases, and-left}
-use Rattle.facts.proofs.Lists.{drop-past, every-same, below-last}
+use Rattle.facts.proofs.Prelude.{ℕ, suc, _+_, _-_, _^_, _≤_, _<_, arith, add-one, Bool, true, false, cond, true≢false, List, [], _∷_, map, _≡_, refl, sym, ap}
+use Rattle.facts.proofs.Prelude.{_∙_, eqb, length, getD, set, drop, length-set, length-drop, drop-cons, drop-drop, getD-set-same, getD-set-other, ltb-true}
+use Rattle.facts.proofs.Prelude.{eqb-false, eqb-true, lt-ltb, le-ltb, eq-eqb, ne-eqb, every, count, below, by-cases, and-left, drop-past, every-same, below-last}
 use Rattle.words.specs.Word.{countOf, pageOf}
 use Rattle.fields.specs.Field.{page, tally, words, get, Has}
 use Rattle.pages.specs.Stack.{pageAt}

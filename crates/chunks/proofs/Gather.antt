@@ -4,17 +4,9 @@
 --     settle-as      settling, with each page's stack height and blocks as they were before the first chunk
 --     placed-as      the passes come to the same
 --     gathered       the passes settle the chunks
-use Prim.Native.Nat.{ℕ, _+_, _≤_, _<_}
-use native.Mathlib.Omega.{arith}
-use mathlib.Core.Bool.{Bool, true, false, not, _&&_, true≢false}
-use mathlib.Core.List.{List, [], _∷_, _++_, map}
-use mathlib.Core.Path.{_≡_, refl, sym, ap, _∙_}
-use lib.Dec.{eqb, ltb, leb}
-use lib.ListN.{length, length-map}
-use borrow.Author.Tests.{lt-ltb, ltb-true, leb-true, eq-eqb, eqb-true, eqb-false, ne-eqb, not-true}
-use Rattle.facts.specs.Lists.{every, All, elem, distinct}
-use Rattle.facts.proofs.Bools.{by-cases, and-left, and-right}
-use Rattle.facts.proofs.Lists.{every-same}
+use Rattle.facts.proofs.Prelude.{ℕ, _+_, _≤_, _<_, arith, Bool, true, false, not, _&&_, true≢false, List, [], _∷_, _++_, map, _≡_}
+use Rattle.facts.proofs.Prelude.{refl, sym, ap, _∙_, eqb, ltb, leb, length, length-map, lt-ltb, ltb-true, leb-true, eq-eqb, eqb-true}
+use Rattle.facts.proofs.Prelude.{eqb-false, ne-eqb, not-true, every, All, elem, distinct, by-cases, and-left, and-right, every-same}
 use Rattle.words.specs.Word.{countOf, pageOf}
 use Rattle.classes.specs.declared.Shape.{Shape}
 use Rattle.classes.specs.way.Sound.{Sound}

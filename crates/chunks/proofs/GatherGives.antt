@@ -4,16 +4,8 @@
 --     gives-count    all chunks
 --     gives-in       the runs are the pages whose fate says so
 --     all-changes    what placing all may change: nothing of the arena's record
-use Prim.Native.Nat.{ℕ, suc, _+_}
-use native.Mathlib.Omega.{arith}
-use mathlib.Core.Bool.{Bool, true, false, cond, not, _&&_, _||_, true≢false}
-use mathlib.Core.List.{List, [], _∷_, _++_, map}
-use mathlib.Core.Path.{_≡_, refl, sym, ap, _∙_}
-use lib.Dec.{eqb, ltb, leb}
-use lib.ListN.{length, length-append}
-use borrow.Author.Tests.{ltb-true, ne-eqb, eqb-false, not-true}
-use Rattle.facts.specs.Lists.{All, elem, distinct}
-use Rattle.facts.proofs.Bools.{by-cases, and-left, and-right}
+use Rattle.facts.proofs.Prelude.{ℕ, suc, _+_, arith, Bool, true, false, cond, not, _&&_, _||_, true≢false, List, [], _∷_, _++_, map, _≡_, refl, sym, ap, _∙_}
+use Rattle.facts.proofs.Prelude.{eqb, ltb, leb, length, length-append, ltb-true, ne-eqb, eqb-false, not-true, All, elem, distinct, by-cases, and-left, and-right}
 use Rattle.words.specs.Word.{pageOf}
 use Rattle.classes.specs.declared.Shape.{Shape}
 use Rattle.classes.specs.way.Sound.{Sound}

@@ -3,16 +3,8 @@
 --     past-put ..    a write goes past a step that leaves its field aside
 --     place-past     it goes past a whole placing, which has the same fate
 --     place-changes  what placing may change
-use Prim.Native.Nat.{ℕ, zero, suc, _+_, _≤_}
-use native.Mathlib.Omega.{arith}
-use mathlib.Core.Bool.{Bool, true, false, cond, not, _&&_, _||_}
-use mathlib.Core.List.{List, [], _∷_}
-use mathlib.Core.Path.{_≡_, refl}
-use lib.Dec.{eqb, ltb, leb}
-use lib.ListN.{length}
-use borrow.Author.Tests.{lt-ltb, eq-eqb}
-use Rattle.facts.specs.Lists.{every}
-use Rattle.facts.proofs.Bools.{and-left, and-right}
+use Rattle.facts.proofs.Prelude.{ℕ, zero, suc, _+_, _≤_, arith, Bool, true, false, cond, not, _&&_, _||_, List, []}
+use Rattle.facts.proofs.Prelude.{_∷_, _≡_, refl, eqb, ltb, leb, length, lt-ltb, eq-eqb, every, and-left, and-right}
 use Rattle.classes.specs.declared.Shape.{Shape}
 use Rattle.fields.specs.Field.{Field, PageField, class, page, slot, out, region, off, row, partial, emptyCount, coldCount, emptyLimit, coldLimit, next, prev, free, carved, listed, virgin, get, put, ok}
 use Rattle.fields.specs.Outcome.{putAt}

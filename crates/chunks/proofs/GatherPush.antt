@@ -3,16 +3,8 @@
 --     stackedAll      to several pages; h has their stacks' heights, f each one's blocks
 --     blocksOf        a page's blocks of the list
 --     pushes          the words' blocks, one by one, are the pages' blocks, page by page
-use Prim.Native.Nat.{ℕ, suc, _+_, _≤_}
-use native.Mathlib.Omega.{arith}
-use mathlib.Core.Bool.{Bool, true, false, not, _&&_, true≢false, false≢true}
-use mathlib.Core.List.{List, [], _∷_, map}
-use mathlib.Core.Path.{_≡_, refl, sym, ap, _∙_}
-use lib.Dec.{eqb, ltb, leb}
-use lib.ListN.{length}
-use borrow.Author.Tests.{lt-ltb, eq-eqb, eqb-true, not-true}
-use Rattle.facts.specs.Lists.{filter, every, All, elem, distinct}
-use Rattle.facts.proofs.Bools.{by-cases, and-left, and-right}
+use Rattle.facts.proofs.Prelude.{ℕ, suc, _+_, _≤_, arith, Bool, true, false, not, _&&_, true≢false, false≢true, List, [], _∷_, map, _≡_, refl, sym, ap, _∙_}
+use Rattle.facts.proofs.Prelude.{eqb, ltb, leb, length, lt-ltb, eq-eqb, eqb-true, not-true, filter, every, All, elem, distinct, by-cases, and-left, and-right}
 use Rattle.classes.specs.declared.Shape.{Shape}
 use Rattle.fields.specs.Field.{Field, page, slot, out, region, row, free, get, put, ok, same, words}
 use Rattle.fields.proofs.Laws.{get-put-same, get-put-other, put-comm, put-put-same, put-get, length-put}

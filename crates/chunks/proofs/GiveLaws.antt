@@ -2,26 +2,15 @@
 --     given-length, given-frontier     the book's length and the frontier stay
 --     given-valid      a give of m pages leaves a book that is valid for the rest
 --     gives-append     runs of two lists
-use Prim.Native.Nat.{ℕ, suc, _+_, _-_, _*_, _^_, _≤_, _<_}
-use native.Mathlib.Omega.{arith}
-use native.Mathlib.Numerals.{add-one}
+use Rattle.facts.proofs.Prelude.{ℕ, suc, _+_, _-_, _*_, _^_, _≤_, _<_, arith, add-one, true, false, List, [], _∷_, _++_, _≡_, refl, sym, ap, _∙_, eqb, ltb, leb}
+use Rattle.facts.proofs.Prelude.{length, getD, drop, drop-cons, ltb-true, le-leb, leb-true, eq-eqb, ne-eqb, every, by-cases, and-left, and-right, drop-past}
 use mir.Val.{Fits}
 use mir.Syntax.{w32}
-use mathlib.Core.Bool.{true, false}
-use mathlib.Core.List.{List, [], _∷_, _++_}
-use mathlib.Core.Path.{_≡_, refl, sym, ap, _∙_}
-use lib.Dec.{eqb, ltb, leb}
-use lib.ListN.{length, getD, drop}
-use lib.Seq.{drop-cons}
-use borrow.Author.Tests.{ltb-true, le-leb, leb-true, eq-eqb, ne-eqb}
-use Rattle.facts.proofs.Lists.{drop-past}
-use Rattle.facts.proofs.Bools.{by-cases, and-left, and-right}
 use Rattle.words.specs.Word.{pageOf}
 use Rattle.classes.specs.declared.Shape.{Shape}
 use Rattle.fields.specs.Field.{Field, arena, hole, state, frontier, holes, holePages, held, words, get, same, ok}
 use Rattle.fields.proofs.Laws.{get-put-same, get-put-other, length-put}
 use Rattle.fields.proofs.Changes.{Changes, changes-none}
-use Rattle.facts.specs.Lists.{every}
 use Rattle.model.specs.HoleStore.{endsAt, startsAt, insert, accepts}
 use Rattle.model.specs.Arena.{Arena, give}
 use Rattle.model.proofs.Placing.{finds}

@@ -1,14 +1,6 @@
 -- Lists by index: tests of every element, and the pages of a list of chunks.
-use Prim.Native.Nat.{ℕ, zero, suc, _-_, _<_}
-use native.Mathlib.Omega.{arith}
-use mathlib.Core.Bool.{true, false, not, true≢false}
-use mathlib.Core.List.{List, [], _∷_, map}
-use mathlib.Core.Path.{_≡_, refl, sym, ap, _∙_}
-use lib.Dec.{eqb}
-use lib.ListN.{length}
-use borrow.Author.Tests.{eqb-true, eq-eqb, not-true}
-use Rattle.facts.specs.Lists.{elem, distinct}
-use Rattle.facts.proofs.Bools.{by-cases, and-left, and-right, or-right}
+use Rattle.facts.proofs.Prelude.{ℕ, zero, suc, _-_, _<_, arith, true, false, not, true≢false, List, [], _∷_, map, _≡_, refl, sym, ap}
+use Rattle.facts.proofs.Prelude.{_∙_, eqb, length, eqb-true, eq-eqb, not-true, elem, distinct, by-cases, and-left, and-right, or-right}
 use Rattle.words.specs.Word.{pageOf}
 use Rattle.chunks.specs.way.Tally.{pageIn}
 

@@ -1,17 +1,6 @@
 -- Marking and taking by pages: the loops over the listed words and over the chunks' pages, and the ways out.
-use Prim.Native.Nat.{ℕ, suc, _+_, _-_, _*_, _^_, _≤_, _<_}
-use native.Mathlib.Omega.{arith}
-use native.Mathlib.Numerals.{add-one}
-use mathlib.Core.Bool.{Bool, true, false, true≢false}
-use mathlib.Core.List.{List, [], _∷_, map}
-use mathlib.Core.Path.{_≡_, refl, sym, ap, _∙_}
-use lib.Dec.{ltb}
-use lib.ListN.{length, getD, drop, length-drop}
-use lib.Seq.{drop-cons, drop-drop}
-use borrow.Author.Tests.{lt-ltb, le-leb, ltb-true}
-use Rattle.facts.specs.Lists.{every, distinct}
-use Rattle.facts.proofs.Bools.{and-left, and-right}
-use Rattle.facts.proofs.Lists.{drop-past, every-get}
+use Rattle.facts.proofs.Prelude.{ℕ, suc, _+_, _-_, _*_, _^_, _≤_, _<_, arith, add-one, Bool, true, false, true≢false, List, [], _∷_, map, _≡_, refl, sym, ap, _∙_, ltb}
+use Rattle.facts.proofs.Prelude.{length, getD, drop, length-drop, drop-cons, drop-drop, lt-ltb, le-leb, ltb-true, every, distinct, and-left, and-right, drop-past, every-get}
 use Rattle.words.specs.Word.{pageOf}
 use Rattle.classes.specs.declared.Shape.{Shape}
 use Rattle.classes.specs.way.Sound.{Sound}

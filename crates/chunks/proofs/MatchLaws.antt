@@ -1,15 +1,7 @@
 -- The test on the named book is `pagesMatch`.
-use Prim.Native.Nat.{ℕ, _+_, _≤_, _<_}
-use native.Mathlib.Omega.{arith}
-use mathlib.Core.Bool.{Bool, true, false, cond, not, _&&_, and-false, and-true, true≢false}
-use mathlib.Core.List.{List, [], _∷_, map}
-use mathlib.Core.Path.{_≡_, refl, sym, ap, _∙_}
-use lib.Dec.{eqb, ltb, leb}
-use lib.ListN.{length, getD}
-use borrow.Author.Tests.{ltb-true, ltb-false, eqb-true, eqb-false, lt-ltb, le-ltb, eq-eqb, ne-eqb, not-true}
-use Rattle.facts.specs.Lists.{filter, every, elem, distinct, count, below}
-use Rattle.facts.proofs.Bools.{by-cases, bool-eq, and-left, and-right}
-use Rattle.facts.proofs.Lists.{every-same, every-get, every-made, every-at, every-of}
+use Rattle.facts.proofs.Prelude.{ℕ, _+_, _≤_, _<_, arith, Bool, true, false, cond, not, _&&_, and-false, and-true, true≢false, List, [], _∷_, map, _≡_, refl, sym}
+use Rattle.facts.proofs.Prelude.{ap, _∙_, eqb, ltb, leb, length, getD, ltb-true, ltb-false, eqb-true, eqb-false, lt-ltb, le-ltb, eq-eqb, ne-eqb, not-true, filter}
+use Rattle.facts.proofs.Prelude.{every, elem, distinct, count, below, by-cases, bool-eq, and-left, and-right, every-same, every-get, every-made, every-at, every-of}
 use Rattle.words.specs.Word.{countOf, pageOf}
 use Rattle.fields.specs.Field.{page, tally, words, get}
 use Rattle.pages.specs.Stack.{pageAt}

@@ -1,14 +1,5 @@
 -- Naming and back: TALLY of a chunk's page finds a chunk with that page, and what stood there written back is the book at entry.
-use Prim.Native.Nat.{ℕ, zero, suc, _≤_, _<_}
-use native.Mathlib.Omega.{arith}
-use mathlib.Core.Bool.{Bool, true, false}
-use mathlib.Core.List.{List}
-use mathlib.Core.Path.{_≡_, refl, _∙_}
-use lib.Dec.{eqb, ltb, leb}
-use lib.ListN.{length}
-use borrow.Author.Tests.{eqb-true, eqb-false}
-use Rattle.facts.specs.Lists.{every}
-use Rattle.facts.proofs.Lists.{every-get}
+use Rattle.facts.proofs.Prelude.{ℕ, zero, suc, _≤_, _<_, arith, Bool, true, false, List, _≡_, refl, _∙_, eqb, ltb, leb, length, eqb-true, eqb-false, every, every-get}
 use Rattle.fields.specs.Field.{page, tally, words, get, put}
 use Rattle.fields.proofs.Laws.{get-put-same, get-put-other, put-put-same, put-get, length-put}
 use Rattle.chunks.specs.way.Tally.{pageIn, tallyIn, named, Saved, unnamed}

@@ -1,17 +1,6 @@
 -- The loops and ways out of all_pages, name_chunks and unname_chunks.
-use Prim.Native.Nat.{ℕ, zero, suc, _+_, _-_, _^_, _≤_, _<_}
-use native.Mathlib.Omega.{arith}
-use native.Mathlib.Numerals.{add-one, sub-one}
-use mathlib.Core.Bool.{Bool, true, false}
-use mathlib.Core.List.{List}
-use mathlib.Core.Path.{_≡_, refl, sym, _∙_}
-use lib.Dec.{eqb, ltb}
-use lib.ListN.{length, getD, set, drop, length-set}
-use lib.Seq.{drop-cons, getD-set-same, getD-set-other}
-use borrow.Author.Tests.{ltb-true, eqb-false, eqb-true}
-use Rattle.facts.specs.Lists.{every}
-use Rattle.facts.proofs.Bools.{by-cases, and-left, and-right}
-use Rattle.facts.proofs.Lists.{drop-past, every-get}
+use Rattle.facts.proofs.Prelude.{ℕ, zero, suc, _+_, _-_, _^_, _≤_, _<_, arith, add-one, sub-one, Bool, true, false, List, _≡_, refl, sym, _∙_, eqb, ltb, length, getD, set, drop}
+use Rattle.facts.proofs.Prelude.{length-set, drop-cons, getD-set-same, getD-set-other, ltb-true, eqb-false, eqb-true, every, by-cases, and-left, and-right, drop-past, every-get}
 use Rattle.words.specs.Word.{pageOf}
 use Rattle.fields.specs.Field.{page, tally, word, get, put, Has}
 use Rattle.fields.specs.Ranges.{maxPages}

@@ -2,17 +2,8 @@
 --     own-count, own-book    neighbours on one page marked together, then the rest
 --     takes-own              all marked: the marks of the chunks' pages taken away by words clear just the listed blocks' out bits
 --     clears-own             the marks of the chunks' pages cleared: the book at entry
-use Prim.Native.Nat.{ℕ, suc, _+_, _*_, _/_, _≤_, _<_}
-use native.Mathlib.Omega.{arith}
-use mathlib.Core.Bool.{Bool, true, false, not, _&&_, false≢true}
-use mathlib.Core.List.{List, [], _∷_, map}
-use mathlib.Core.Logic.{_≢_}
-use mathlib.Core.Path.{_≡_, refl, ap, _∙_}
-use lib.Dec.{eqb}
-use lib.ListN.{length, drop}
-use borrow.Author.Tests.{eqb-true, eqb-false, ltb-true, not-true}
-use Rattle.facts.specs.Lists.{every, elem, distinct}
-use Rattle.facts.proofs.Bools.{by-cases, and-left, and-right, nor-left, nor-right}
+use Rattle.facts.proofs.Prelude.{ℕ, suc, _+_, _*_, _/_, _≤_, _<_, arith, Bool, true, false, not, _&&_, false≢true, List, [], _∷_, map, _≢_, _≡_, refl, ap, _∙_, eqb}
+use Rattle.facts.proofs.Prelude.{length, drop, eqb-true, eqb-false, ltb-true, not-true, every, elem, distinct, by-cases, and-left, and-right, nor-left, nor-right}
 use Rattle.words.specs.Word.{pageOf}
 use Rattle.classes.specs.declared.Shape.{Shape}
 use Rattle.classes.specs.way.Sound.{Sound}

@@ -6,18 +6,9 @@
 --     link-steady ..  the steps on the class's lists
 --     placed-steady   one chunk's page placed
 --     pre-kept        what placing a page asks, on a steady book
-use Prim.Native.Nat.{ℕ, zero, suc, _+_, _≤_, _<_}
-use native.Mathlib.Omega.{arith}
+use Rattle.facts.proofs.Prelude.{ℕ, zero, suc, _+_, _≤_, _<_, arith, Bool, true, false, cond, _&&_, _||_, List, _⊎_, inl, inr, ⊎-elim, _≡_, refl, sym, _∙_, eqb, ltb, leb, length}
+use Rattle.facts.proofs.Prelude.{getD, set, getD-set-same, getD-set-other, set-out, leb-true, ltb-true, eqb-true, eqb-false, le-leb, lt-ltb, eq-eqb, ne-eqb, and-left, and-right}
 use native.Mathlib.Decide.{decLe}
-use mathlib.Core.Bool.{Bool, true, false, cond, _&&_, _||_}
-use mathlib.Core.List.{List}
-use mathlib.Core.Logic.{_⊎_, inl, inr, ⊎-elim}
-use mathlib.Core.Path.{_≡_, refl, sym, _∙_}
-use lib.Dec.{eqb, ltb, leb}
-use lib.ListN.{length, getD, set}
-use lib.Seq.{getD-set-same, getD-set-other, set-out}
-use borrow.Author.Tests.{leb-true, ltb-true, eqb-true, eqb-false, le-leb, lt-ltb, eq-eqb, ne-eqb}
-use Rattle.facts.proofs.Bools.{and-left, and-right}
 use Rattle.classes.specs.declared.Shape.{Shape}
 use Rattle.classes.specs.way.Sound.{Sound}
 use Rattle.rules.specs.Rules.{Fit}

@@ -1,18 +1,9 @@
 -- Placing one chunk's page, and the loop over the chunks.
-use Prim.Native.Nat.{ℕ, zero, suc, _+_, _-_, _^_, _≤_, _<_}
-use native.Mathlib.Omega.{arith}
-use native.Mathlib.Numerals.{add-one}
+use Rattle.facts.proofs.Prelude.{ℕ, zero, suc, _+_, _-_, _^_, _≤_, _<_, arith, add-one, Bool, true, List, [], _∷_, _++_, append-assoc, _≡_}
+use Rattle.facts.proofs.Prelude.{refl, sym, ap, _∙_, ltb, leb, length, getD, set, take, drop, length-set, take-append-drop, drop-cons}
+use Rattle.facts.proofs.Prelude.{drop-length, take-suc-set, drop-set-lt, leb-true, lt-ltb, ltb-true, eq-eqb, ne-eqb, every, and-left, and-right}
 use mir.Val.{Fits}
 use mir.Syntax.{w32}
-use mathlib.Core.Bool.{Bool, true}
-use mathlib.Core.List.{List, [], _∷_, _++_, append-assoc}
-use mathlib.Core.Path.{_≡_, refl, sym, ap, _∙_}
-use lib.Dec.{ltb, leb}
-use lib.ListN.{length, getD, set, take, drop, length-set, take-append-drop}
-use lib.Seq.{drop-cons, drop-length, take-suc-set, drop-set-lt}
-use borrow.Author.Tests.{leb-true, lt-ltb, ltb-true, eq-eqb, ne-eqb}
-use Rattle.facts.specs.Lists.{every}
-use Rattle.facts.proofs.Bools.{and-left, and-right}
 use Rattle.words.specs.Word.{pageOf}
 use Rattle.classes.specs.declared.Shape.{Shape}
 use Rattle.fields.specs.Field.{arena, page, frontier, free, carved, virgin, words, get, put}

@@ -1,18 +1,8 @@
 -- Blocks taken, and pushed one after another, the list's last first.
 --     push-length     the book's length stays
 --     push-free       FREE of a page grows by the words on it
-use Prim.Native.Nat.{ℕ, zero, suc, _+_, _-_, _^_, _≤_, _<_}
-use native.Mathlib.Omega.{arith}
-use native.Mathlib.Numerals.{add-one}
-use mathlib.Core.Bool.{true, false}
-use mathlib.Core.List.{List, [], _∷_}
-use mathlib.Core.Path.{_≡_, refl, sym, ap, _∙_}
-use lib.Dec.{eqb, ltb}
-use lib.ListN.{length, getD, drop}
-use lib.Seq.{drop-cons, drop-length}
-use borrow.Author.Tests.{lt-ltb, ltb-true, le-leb, eqb-true, eq-eqb}
-use Rattle.facts.proofs.Bools.{by-cases, and-left, and-right}
-use Rattle.facts.proofs.Lists.{drop-past, every-get}
+use Rattle.facts.proofs.Prelude.{ℕ, zero, suc, _+_, _-_, _^_, _≤_, _<_, arith, add-one, true, false, List, [], _∷_, _≡_, refl, sym, ap, _∙_, eqb, ltb, length, getD}
+use Rattle.facts.proofs.Prelude.{drop, drop-cons, drop-length, lt-ltb, ltb-true, le-leb, eqb-true, eq-eqb, by-cases, and-left, and-right, drop-past, every-get}
 use Rattle.classes.specs.declared.Shape.{Shape}
 use Rattle.fields.specs.Field.{page, slot, out, free, words, get, put, Has}
 use Rattle.fields.proofs.Laws.{get-put-same, get-put-other, length-put}

@@ -1,21 +1,11 @@
 -- List neighbours on one page pushed together, from the list's last on.
 --     run-pushed      words that lie on one page, pushed on its stack with FREE written once, are pushed one by one
-use Prim.Native.Nat.{ℕ, zero, suc, _+_, _-_, _^_, _≤_, _<_}
-use native.Mathlib.Omega.{arith}
+use Rattle.facts.proofs.Prelude.{ℕ, zero, suc, _+_, _-_, _^_, _≤_, _<_, arith, add-zero, div-le-self, Bool, true, false, true≢false, List, [], _∷_, _++_, map, _≡_, refl}
+use Rattle.facts.proofs.Prelude.{sym, ap, _∙_, eqb, ltb, length, getD, take, drop, length-map, length-drop, take-append-drop, take-all, drop-cons, drop-length}
+use Rattle.facts.proofs.Prelude.{drop-append-le, length-take-le, lt-ltb, ltb-true, le-leb, eqb-true, eq-eqb, every, by-cases, and-left, and-right, every-get, every-made}
 use native.Mathlib.Decide.{decLe}
-use native.Mathlib.Nat.{add-zero, div-le-self}
 use mir.Val.{Fits}
 use mir.Syntax.{w32}
-use mathlib.Core.Bool.{Bool, true, false, true≢false}
-use mathlib.Core.List.{List, [], _∷_, _++_, map}
-use mathlib.Core.Path.{_≡_, refl, sym, ap, _∙_}
-use lib.Dec.{eqb, ltb}
-use lib.ListN.{length, getD, take, drop, length-map, length-drop, take-append-drop}
-use lib.Seq.{take-all, drop-cons, drop-length, drop-append-le, length-take-le}
-use borrow.Author.Tests.{lt-ltb, ltb-true, le-leb, eqb-true, eq-eqb}
-use Rattle.facts.specs.Lists.{every}
-use Rattle.facts.proofs.Bools.{by-cases, and-left, and-right}
-use Rattle.facts.proofs.Lists.{every-get, every-made}
 use Rattle.words.specs.Word.{granuleOf}
 use Rattle.classes.specs.declared.Shape.{Shape}
 use Rattle.fields.specs.Field.{page, slot, free, words, get, put, Has}

@@ -1,20 +1,8 @@
 -- Number 13's tests of a group release: the loops over the chunks, and the ways out.
-use Prim.Native.Nat.{ℕ, suc, _+_, _-_, _*_, _^_, _≤_, _<_}
-use native.Mathlib.Omega.{arith}
-use native.Mathlib.Numerals.{add-one}
-use native.Mathlib.Nat.{add-zero, mul-le-mul}
+use Rattle.facts.proofs.Prelude.{ℕ, suc, _+_, _-_, _*_, _^_, _≤_, _<_, arith, add-zero, mul-le-mul, add-one, Bool, true, false, and-false, List, [], _∷_, _≡_, refl, sym, _∙_}
+use Rattle.facts.proofs.Prelude.{eqb, ltb, length, getD, drop, drop-cons, ltb-true, le-leb, lt-leb, eq-eqb, ne-eqb, eqb-true, eqb-false, every, by-cases, drop-past, every-get}
 use mir.Val.{Fits}
 use mir.Syntax.{w32}
-use mathlib.Core.Bool.{Bool, true, false, and-false}
-use mathlib.Core.List.{List, [], _∷_}
-use mathlib.Core.Path.{_≡_, refl, sym, _∙_}
-use lib.Dec.{eqb, ltb}
-use lib.ListN.{length, getD, drop}
-use lib.Seq.{drop-cons}
-use borrow.Author.Tests.{ltb-true, le-leb, lt-leb, eq-eqb, ne-eqb, eqb-true, eqb-false}
-use Rattle.facts.specs.Lists.{every}
-use Rattle.facts.proofs.Bools.{by-cases}
-use Rattle.facts.proofs.Lists.{drop-past, every-get}
 use Rattle.words.specs.Word.{countOf, pageOf}
 use Rattle.classes.specs.declared.Shape.{Shape}
 use Rattle.rules.specs.declared.Limits.{Limits}

@@ -1,11 +1,5 @@
 -- The three answers of the lookup, and the lookup tables' rules where the tables are read.
-use Prim.Native.Nat.{ℕ, _+_, _-_, _*_, _/_, _≤_, _<_}
-use mathlib.Core.Path.{_≡_, sym, ap, _∙_}
-use mathlib.Core.List.{List}
-use native.Mathlib.Nat.{zero-add}
-use native.Mathlib.Omega.{arith}
-use lib.ListN.{getD}
-use borrow.Author.Tests.{le-leb, lt-leb, lt-ltb}
+use Rattle.facts.proofs.Prelude.{ℕ, _+_, _-_, _*_, _/_, _≤_, _<_, arith, zero-add, List, _≡_, sym, ap, _∙_, getD, le-leb, lt-leb, lt-ltb}
 use Rattle.classes.specs.declared.Sized.the-variants.{Small, Medium, TooLarge}
 use Rattle.classes.specs.Sizes.{smallSizes, mediumSizes, maxSmallSize, maxMediumSize}
 use Rattle.classes.specs.Lookup.{firstFit, sizeClass, classForSize, mediumClassForSize, SmallLut, MediumLut}

@@ -1,6 +1,5 @@
 -- The examples of the lookup hold: one statement over their table.
-use mathlib.Core.Path.{_≡_, refl}
-use mathlib.Core.List.{map}
+use Rattle.facts.proofs.Prelude.{map, _≡_, refl}
 use Rattle.classes.specs.Sizes.{smallSizes, mediumSizes}
 use Rattle.classes.specs.Lookup.{firstFit, sizeClass}
 use Rattle.classes.specs.Examples.{examples, answer, expected}

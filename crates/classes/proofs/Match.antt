@@ -1,7 +1,5 @@
 -- The default of a `match` on a number.
-use Prim.Native.Nat.{ℕ, zero, suc, _≤_, zero-le}
-use mathlib.Core.Path.{_≡_}
-use native.Mathlib.Omega.{arith}
+use Rattle.facts.proofs.Prelude.{ℕ, zero, suc, _≤_, zero-le, arith, _≡_}
 
 -- a number that is none of the keys 0 to n - 1, as the default arm knows it
 abbrev pub Past : ℕ → ℕ → Type 0

@@ -1,15 +1,8 @@
 -- Pages per span are the fewest that hold 8 blocks, for every size; the class of a size is the first that fits.
-use Prim.Native.Nat.{ℕ, zero, suc, _-_, _*_, _/_, _≤_, _<_, zero-le, suc-le-suc}
-use mathlib.Core.Path.{_≡_, refl}
-use mathlib.Core.Bool.{Bool, true, false, cond}
-use mathlib.Core.List.{List, [], _∷_}
+use Rattle.facts.proofs.Prelude.{ℕ, zero, suc, _-_, _*_, _/_, _≤_, _<_, zero-le, suc-le-suc, arith, le-div-iff-mul-le, div-lt-iff-lt-mul, le-of-suc-le-suc}
+use Rattle.facts.proofs.Prelude.{not-suc-le-zero, Bool, true, false, cond, List, [], _∷_, _≡_, refl, leb, length, getD, leb-true, leb-false}
 use mathlib.Core.Logic.{by-cases}
-use native.Mathlib.Nat.{le-div-iff-mul-le, div-lt-iff-lt-mul, le-of-suc-le-suc, not-suc-le-zero}
 use native.Mathlib.Decide.{decLe}
-use native.Mathlib.Omega.{arith}
-use lib.Dec.{leb}
-use lib.ListN.{length, getD}
-use borrow.Author.Tests.{leb-true, leb-false}
 use Rattle.classes.specs.Sizes.{smallSizes, mediumSizes, maxSmallSize, maxMediumSize, pageBytes, mediumHeader, spanPages, spanCapacity}
 use Rattle.classes.specs.Lookup.{firstFit, sizeClass}
 use Rattle.classes.specs.Meaning.{FewestPages, FirstFit, Smallest}

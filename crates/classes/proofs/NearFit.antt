@@ -1,16 +1,8 @@
 -- From a class near a size to its first fit.
-use Prim.Native.Nat.{ℕ, zero, suc, _+_, _-_, _*_, _/_, _≤_, _<_, min, zero-le, suc-le-suc}
-use mathlib.Core.Path.{_≡_, refl, sym, ap, _∙_}
-use mathlib.Core.Bool.{Bool, true, false, cond, _||_, false≢true}
-use mathlib.Core.List.{List, [], _∷_}
+use Rattle.facts.proofs.Prelude.{ℕ, zero, suc, _+_, _-_, _*_, _/_, _≤_, _<_, min, zero-le, suc-le-suc, arith, add-one, Bool, true, false, cond, _||_, false≢true, List}
+use Rattle.facts.proofs.Prelude.{[], _∷_, _≡_, refl, sym, ap, _∙_, leb, ltb, getD, leb-true, leb-false, le-leb, lt-leb, ltb-true, lt-ltb, le-ltb, and-left, and-right}
 use mathlib.Core.Logic.{by-cases}
 use native.Mathlib.Decide.{decLe}
-use native.Mathlib.Numerals.{add-one}
-use native.Mathlib.Omega.{arith}
-use lib.Dec.{leb, ltb}
-use lib.ListN.{getD}
-use borrow.Author.Tests.{leb-true, leb-false, le-leb, lt-leb, ltb-true, lt-ltb, le-ltb}
-use Rattle.facts.proofs.Bools.{and-left, and-right}
 use Rattle.classes.specs.Sizes.{smallSizes, mediumSizes, maxSmallSize, maxMediumSize}
 use Rattle.classes.specs.Lookup.{firstFit}
 use Rattle.classes.specs.Shape.{classCount}

@@ -1,12 +1,5 @@
 -- Sizes of equally many granules have the same class: the lookup tables need an entry for every 16th size only.
-use Prim.Native.Nat.{ℕ, _+_, _/_, _%_}
-use mathlib.Core.Path.{_≡_, refl}
-use mathlib.Core.Bool.{Bool, true, false}
-use mathlib.Core.List.{List, [], _∷_}
-use native.Mathlib.Omega.{arith}
-use lib.Dec.{leb, eqb}
-use borrow.Author.Tests.{leb-true, leb-false, eqb-true}
-use Rattle.facts.proofs.Bools.{and-left, and-right}
+use Rattle.facts.proofs.Prelude.{ℕ, _+_, _/_, _%_, arith, Bool, true, false, List, [], _∷_, _≡_, refl, leb, eqb, leb-true, leb-false, eqb-true, and-left, and-right}
 use Rattle.classes.specs.Sizes.{smallSizes, mediumSizes}
 use Rattle.classes.specs.Lookup.{firstFit}
 use Rattle.classes.proofs.Table.{every}

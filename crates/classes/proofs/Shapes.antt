@@ -1,15 +1,8 @@
 -- Every class's shape is sound: one computed test over each of the two size tables.
-use Prim.Native.Nat.{ℕ, _+_, _-_, _*_, _/_, _^_, _≤_, _<_}
-use native.Mathlib.Omega.{arith}
-use native.Mathlib.Nat.{div-le-self}
+use Rattle.facts.proofs.Prelude.{ℕ, _+_, _-_, _*_, _/_, _^_, _≤_, _<_, arith, div-le-self, Bool, true, false, cond, _&&_}
+use Rattle.facts.proofs.Prelude.{_≡_, refl, leb, ltb, eqb, getD, leb-true, eqb-true, lt-ltb, le-ltb, and-left, and-right}
 use mir.Val.{Fits}
 use mir.Syntax.{w64}
-use mathlib.Core.Path.{_≡_, refl}
-use mathlib.Core.Bool.{Bool, true, false, cond, _&&_}
-use lib.Dec.{leb, ltb, eqb}
-use borrow.Author.Tests.{leb-true, eqb-true, lt-ltb, le-ltb}
-use lib.ListN.{getD}
-use Rattle.facts.proofs.Bools.{and-left, and-right}
 use Rattle.classes.specs.declared.Shape.{Shape}
 use Rattle.classes.specs.Sizes.{smallSizes, mediumSizes, pageBytes, smallCapacity, spanPages, spanCapacity}
 use Rattle.classes.specs.Shape.{inverse, smallOf, mediumOf, smallShape, mediumShape, shapeOf}

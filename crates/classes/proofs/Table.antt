@@ -1,14 +1,6 @@
 -- A rule of a table, proved at all of its entries by one test that antt computes, one entry after the other.
-use Prim.Native.Nat.{ℕ, zero, suc, _+_, _*_, _≤_, _<_}
-use mathlib.Core.Path.{_≡_, refl}
-use mathlib.Core.Bool.{Bool, true, _&&_}
-use mathlib.Core.List.{List, [], _∷_}
-use native.Mathlib.Nat.{add-zero, mul-zero, le-of-suc-le-suc, not-suc-le-zero}
-use native.Mathlib.Omega.{arith}
-use lib.Dec.{eqb}
-use lib.ListN.{length, getD, drop}
-use borrow.Author.Tests.{eqb-true, eq-eqb}
-use Rattle.facts.proofs.Bools.{and-left, and-right}
+use Rattle.facts.proofs.Prelude.{ℕ, zero, suc, _+_, _*_, _≤_, _<_, arith, add-zero, mul-zero, le-of-suc-le-suc, not-suc-le-zero, Bool}
+use Rattle.facts.proofs.Prelude.{true, _&&_, List, [], _∷_, _≡_, refl, eqb, length, getD, drop, eqb-true, eq-eqb, and-left, and-right}
 use Rattle.classes.specs.Lookup.{obeys}
 
 -- a test passes at every entry

@@ -4,15 +4,8 @@
 --     refused-book   a refused one leaves the book as it was
 --     no-fault       numbers 1 and 2 do not apply to a book that stands for a heap
 --     call-is        `call` is the refinement's `callReply`
-use Prim.Native.Nat.{ℕ, _+_, _≤_}
-use native.Mathlib.Omega.{arith}
-use mathlib.Core.Bool.{true, false, _&&_, false≢true}
-use mathlib.Core.List.{List, []}
-use mathlib.Core.Path.{_≡_, refl}
-use lib.Dec.{eqb, ltb, leb}
-use lib.ListN.{length}
-use borrow.Author.Tests.{eqb-true, leb-true, le-leb, lt-leb, ltb-true, ltb-false}
-use Rattle.facts.proofs.Bools.{by-cases, and-left, and-right}
+use Rattle.facts.proofs.Prelude.{ℕ, _+_, _≤_, arith, true, false, _&&_, false≢true, List, [], _≡_, refl, eqb, ltb, leb, length}
+use Rattle.facts.proofs.Prelude.{eqb-true, leb-true, le-leb, lt-leb, ltb-true, ltb-false, by-cases, and-left, and-right}
 use Rattle.words.specs.Host.{badHost}
 use Rattle.rules.specs.Rules.{rowsIn, rowsFor, badRows, twoRows, noRow, rowsFault, rulesOf}
 use Rattle.fields.specs.Field.{arena, size, get, words}

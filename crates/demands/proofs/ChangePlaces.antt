@@ -1,14 +1,6 @@
 -- Neighbouring calls of the exported functions may change places (document 02, A.14): the refinement's `change-places`, from any start.
-use Prim.Native.Nat.{ℕ}
-use native.Mathlib.Omega.{arith}
-use mathlib.Core.Bool.{true, false, not, true≢false}
-use mathlib.Core.List.{List, [], _∷_, _++_, append-assoc}
-use mathlib.Core.Logic.{_⊎_, inl, inr}
-use mathlib.Core.Option.{some}
-use mathlib.Core.Path.{_≡_, refl, sym, ap, _∙_}
-use lib.ListN.{getD}
-use Rattle.facts.specs.Lists.{isNil}
-use Rattle.facts.proofs.Bools.{by-cases, and-false}
+use Rattle.facts.proofs.Prelude.{ℕ, arith, true, false, not, true≢false, List, [], _∷_, _++_, append-assoc, _⊎_, inl, inr, some, _≡_, refl, sym, ap, _∙_, getD, isNil, by-cases}
+use Rattle.facts.proofs.Bools.{and-false}
 use Rattle.words.specs.Host.{badHost}
 use Rattle.classes.specs.Sizes.{smallSizes}
 use Rattle.classes.specs.Shape.{smallShape, shapeOf}

@@ -2,18 +2,9 @@
 --     groups-are       number 11's test of the groups on a class's pages is that of the words
 --     chunks-passed    one that is not refused passed each test and answers the fates
 --     chunks-return    it is not refused exactly if its lists are `ChunksOut`
-use Prim.Native.Nat.{ℕ, _<_}
-use native.Mathlib.Omega.{arith}
-use mathlib.Core.Bool.{Bool, true, false, cond, not, _&&_, _||_, false≢true}
-use mathlib.Core.List.{List, [], _∷_, _++_, map}
-use mathlib.Core.Logic.{_↔_, inl, inr}
-use mathlib.Core.Option.{Option, none, some}
-use mathlib.Core.Path.{_≡_, refl, sym, ap, _∙_}
-use lib.Dec.{eqb, ltb}
-use lib.ListN.{length, drop}
-use borrow.Author.Tests.{eq-eqb, eqb-true, eqb-false, not-false, ltb-false, le-ltb, lt-ltb}
-use Rattle.facts.specs.Lists.{isNil, filter, every, isSome, elem, distinct}
-use Rattle.facts.proofs.Bools.{by-cases, and-left, and-right, nor-left, nor-right}
+use Rattle.facts.proofs.Prelude.{ℕ, _<_, arith, Bool, true, false, cond, not, _&&_, _||_, false≢true, List, [], _∷_, _++_, map, _↔_, inl, inr, Option}
+use Rattle.facts.proofs.Prelude.{none, some, _≡_, refl, sym, ap, _∙_, eqb, ltb, length, drop, eq-eqb, eqb-true, eqb-false, not-false, ltb-false}
+use Rattle.facts.proofs.Prelude.{le-ltb, lt-ltb, isNil, filter, every, isSome, elem, distinct, by-cases, and-left, and-right, nor-left, nor-right}
 use Rattle.words.specs.Host.{hostMax, badHost}
 use Rattle.words.specs.Word.{chunkKind, countOf, pageOf}
 use Rattle.classes.specs.declared.Shape.{Shape}

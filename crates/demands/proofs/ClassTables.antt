@@ -1,14 +1,6 @@
 -- Document 02, A.13, of the exported function (specs/ClassTables).
-use Prim.Native.Nat.{ℕ, zero, suc, _+_, _-_, _≤_, _<_}
-use native.Mathlib.Omega.{arith}
-use native.Mathlib.Nat.{pos-of-ne-zero}
-use mathlib.Core.Bool.{Bool, true, false, cond, _||_}
-use mathlib.Core.List.{List, [], _∷_, _++_}
-use mathlib.Core.Path.{_≡_, refl, sym, ap, _∙_}
-use lib.Dec.{eqb, ltb}
-use lib.ListN.{length, getD, drop}
-use borrow.Author.Tests.{le-ltb, ne-eqb, ltb-false, eqb-false}
-use Rattle.facts.proofs.Bools.{nor-left, nor-right}
+use Rattle.facts.proofs.Prelude.{ℕ, zero, suc, _+_, _-_, _≤_, _<_, arith, pos-of-ne-zero, Bool, true, false, cond, _||_, List, [], _∷_, _++_, _≡_}
+use Rattle.facts.proofs.Prelude.{refl, sym, ap, _∙_, eqb, ltb, length, getD, drop, le-ltb, ne-eqb, ltb-false, eqb-false, nor-left, nor-right}
 use Rattle.classes.specs.Sizes.{smallSizes, granuleBytes}
 use Rattle.tables.specs.Table.{sizesFrom, nextSize, table, lastSize, badRate, badTop, badSlots, Growth, tabled, classTable}
 use Rattle.tables.proofs.Sizes.{sizes-length}

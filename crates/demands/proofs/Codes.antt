@@ -4,16 +4,7 @@
 --     next-host                          one that is not refused passed number 3
 --     step-class, next-answer            one that passed it goes to its class, whose answer is the reply's; `next-class`, on the words
 --     next-exactly                       and then it is refused exactly if the class refuses it
-use Prim.Native.Nat.{ℕ}
-use native.Mathlib.Omega.{arith}
-use mathlib.Core.Bool.{false, cond, false≢true}
-use mathlib.Core.List.{List}
-use mathlib.Core.Logic.{_↔_}
-use mathlib.Core.Option.{Option, some}
-use mathlib.Core.Path.{_≡_, refl, sym, ap, _∙_}
-use lib.Dec.{eqb}
-use borrow.Author.Tests.{eqb-true}
-use Rattle.facts.proofs.Bools.{by-cases}
+use Rattle.facts.proofs.Prelude.{ℕ, arith, false, cond, false≢true, List, _↔_, Option, some, _≡_, refl, sym, ap, _∙_, eqb, eqb-true, by-cases}
 use Rattle.words.specs.Host.{badHost}
 use Rattle.classes.specs.Shape.{shapeOf}
 use Rattle.rules.specs.Rules.{rulesOf}

@@ -1,17 +1,8 @@
 -- What a caller sees of the exported functions is the reply of `call` (specs/Contracts).
 --     observes-call      of one function
 --     in-turn-replies    of calls in turn
-use Prim.Native.Nat.{ℕ, zero, suc, _+_, _≤_, _<_}
-use native.Mathlib.Omega.{arith}
-use mathlib.Core.Bool.{Bool, true, false}
-use mathlib.Core.List.{List, [], _∷_}
-use mathlib.Core.Option.{Option, none, some}
-use mathlib.Core.Path.{_≡_, refl, sym, ap, ap₂, _∙_, subst}
-use lib.Dec.{eqb, leb}
-use lib.ListN.{length}
-use borrow.Author.Tests.{eqb-true, ne-eqb, leb-true}
-use Rattle.facts.specs.Lists.{every}
-use Rattle.facts.proofs.Bools.{by-cases, and-left, and-right}
+use Rattle.facts.proofs.Prelude.{ℕ, zero, suc, _+_, _≤_, _<_, arith, Bool, true, false, List, [], _∷_, Option, none, some, _≡_, refl, sym}
+use Rattle.facts.proofs.Prelude.{ap, ap₂, _∙_, subst, eqb, leb, length, eqb-true, ne-eqb, leb-true, every, by-cases, and-left, and-right}
 use Rattle.words.specs.Host.{badHost}
 use Rattle.fields.specs.Field.{arena, size, state, frontier, holePages, get}
 use Rattle.fields.specs.Ranges.{maxPages, metaFault}

@@ -1,6 +1,5 @@
 -- A report's three counts after every history of the exported calls are those of the history.
-use mathlib.Core.List.{List}
-use mathlib.Core.Path.{_∙_, ap}
+use Rattle.facts.proofs.Prelude.{List, _∙_, ap}
 use Rattle.model.specs.Calls as Calls
 use Rattle.model.specs.Calls.{Call}
 use Rattle.model.specs.Heap.{figures}

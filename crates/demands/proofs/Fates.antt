@@ -1,16 +1,8 @@
 -- Where an emptied run goes, by the fate that a release by list answers (document 02, A.9).
 --     emptied-none     the list has every block of the run that is out exactly if none is out afterwards
 --     by-row           the answer
-use Prim.Native.Nat.{ℕ, _+_, _≤_}
-use native.Mathlib.Omega.{arith}
-use mathlib.Core.Bool.{Bool, true, false, cond, true≢false}
-use mathlib.Core.List.{List, [], _∷_, _++_}
-use mathlib.Core.Option.{Option, none, some}
-use mathlib.Core.Path.{_≡_, refl, sym, ap, _∙_}
-use lib.ListN.{length}
-use borrow.Author.Tests.{eq-eqb}
-use Rattle.facts.specs.Lists.{every, elem, distinct, count}
-use Rattle.facts.proofs.Bools.{by-cases}
+use Rattle.facts.proofs.Prelude.{ℕ, _+_, _≤_, arith, Bool, true, false, cond, true≢false, List, [], _∷_, _++_, Option, none}
+use Rattle.facts.proofs.Prelude.{some, _≡_, refl, sym, ap, _∙_, length, eq-eqb, every, elem, distinct, count, by-cases}
 use Rattle.classes.specs.declared.Shape.{Shape}
 use Rattle.classes.specs.Shape.{shapeOf}
 use Rattle.classes.specs.way.Sound.{Sound}

@@ -3,17 +3,8 @@
 --     run-fits       so is the commit that a class's call asks for, and it asks for one exactly as `Asks` says
 --     take-yields    a take that is not refused answers a block, or the arena has no run for it
 --     take-fewer     one that answers fewer than it may leaves nothing at hand in a run in use; take-most, take-turns, take-virgin
-use Prim.Native.Nat.{ℕ, _≤_, _<_}
-use mathlib.Core.Bool.{Bool, true, false, cond, false≢true}
-use mathlib.Core.List.{List, [], _∷_, _++_}
-use mathlib.Core.Logic.{_⊎_, _↔_, inl, inr}
-use mathlib.Core.Option.{Option, none, some, Option·none-ne-some}
-use mathlib.Core.Path.{_≡_, refl, sym, ap, ap₂, _∙_, subst}
-use lib.Dec.{ltb}
-use lib.ListN.{length}
-use borrow.Author.Tests.{le-ltb}
-use Rattle.facts.specs.Lists.{isNil, total}
-use Rattle.facts.proofs.Bools.{by-cases}
+use Rattle.facts.proofs.Prelude.{ℕ, _≤_, _<_, Bool, true, false, cond, false≢true, List, [], _∷_, _++_, _⊎_, _↔_, inl, inr, Option, none}
+use Rattle.facts.proofs.Prelude.{some, Option·none-ne-some, _≡_, refl, sym, ap, ap₂, _∙_, subst, ltb, length, le-ltb, isNil, total, by-cases}
 use Rattle.words.specs.Host.{hostMax, badHost}
 use Rattle.classes.specs.declared.Shape.{Shape}
 use Rattle.classes.specs.Shape.{shapeOf}

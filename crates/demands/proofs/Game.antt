@@ -1,10 +1,5 @@
 -- Document 02, A.12, of the exported function (specs/Game).
-use Prim.Native.Nat.{ℕ}
-use native.Mathlib.Omega.{arith}
-use mathlib.Core.Bool.{Bool, true, false, cond}
-use mathlib.Core.Logic.{_↔_}
-use mathlib.Core.Path.{_≡_, refl, sym, ap, _∙_}
-use borrow.Author.Tests.{eq-eqb}
+use Rattle.facts.proofs.Prelude.{ℕ, arith, Bool, true, false, cond, _↔_, _≡_, refl, sym, ap, _∙_, eq-eqb}
 use Rattle.words.specs.Host.{digit}
 use Rattle.game.specs.Game.{empty, wins, badGame, played, askerWins, winsOut, GameEnds}
 use Rattle.game.specs.Forces.{Forces}

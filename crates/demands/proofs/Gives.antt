@@ -4,13 +4,7 @@
 --     growth-given     the pages of a growth that was not granted
 --     class-given      the runs that a class's call gives
 --     none-touch       no two holes touch
-use Prim.Native.Nat.{ℕ, _+_, _-_, _≤_}
-use mathlib.Core.Bool.{true, false, false≢true}
-use mathlib.Core.List.{List, [], _∷_}
-use mathlib.Core.Option.{some}
-use mathlib.Core.Path.{_≡_, refl, sym, _∙_, subst}
-use borrow.Author.Tests.{eq-eqb, le-leb}
-use Rattle.facts.proofs.Bools.{by-cases}
+use Rattle.facts.proofs.Prelude.{ℕ, _+_, _-_, _≤_, true, false, false≢true, List, [], _∷_, some, _≡_, refl, sym, _∙_, subst, eq-eqb, le-leb, by-cases}
 use Rattle.classes.specs.Shape.{shapeOf}
 use Rattle.classes.proofs.Shapes.{shape-sound}
 use Rattle.rules.specs.Rules.{rulesOf}

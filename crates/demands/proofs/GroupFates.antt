@@ -2,18 +2,9 @@
 --     Decides            the group returns all blocks of its page that are out exactly if the list has them all, by the history
 --     counts-observed    what a group adds to the two stores is told by its fate
 --     groups-go          the groups in their order
-use Prim.Native.Nat.{ℕ, _+_, _<_}
-use native.Mathlib.Omega.{arith}
-use mathlib.Core.Bool.{Bool, true, false, cond, not, false≢true}
-use mathlib.Core.List.{List, [], _∷_, _++_, map}
-use mathlib.Core.Option.{Option, none, some, Option·none-ne-some, Option·some-injective}
-use mathlib.Core.Path.{_≡_, refl, sym, ap, _∙_, subst}
-use lib.Dec.{eqb}
-use lib.ListN.{length, take, drop}
-use lib.Seq.{take-append-seam}
-use borrow.Author.Tests.{eqb-true, lt-ltb, not-true}
-use Rattle.facts.specs.Lists.{All, every, elem, distinct}
-use Rattle.facts.proofs.Bools.{by-cases, and-left, and-right, nor-left, nor-right}
+use Rattle.facts.proofs.Prelude.{ℕ, _+_, _<_, arith, Bool, true, false, cond, not, false≢true, List, [], _∷_, _++_, map, Option, none, some}
+use Rattle.facts.proofs.Prelude.{Option·none-ne-some, Option·some-injective, _≡_, refl, sym, ap, _∙_, subst, eqb, length, take, drop, take-append-seam}
+use Rattle.facts.proofs.Prelude.{eqb-true, lt-ltb, not-true, All, every, elem, distinct, by-cases, and-left, and-right, nor-left, nor-right}
 use Rattle.words.specs.Host.{digit}
 use Rattle.words.specs.Word.{pageOf}
 use Rattle.classes.specs.declared.Shape.{Shape}

@@ -1,12 +1,5 @@
 -- What a group release gives to the arena is what its answer says.
-use Prim.Native.Nat.{ℕ, _<_}
-use mathlib.Core.Bool.{false}
-use mathlib.Core.List.{List, [], _∷_}
-use mathlib.Core.Option.{none, some}
-use mathlib.Core.Path.{_≡_, refl, sym, ap, _∙_}
-use lib.ListN.{length, take}
-use borrow.Author.Tests.{lt-ltb}
-use Rattle.facts.proofs.Bools.{by-cases}
+use Rattle.facts.proofs.Prelude.{ℕ, _<_, false, List, [], _∷_, none, some, _≡_, refl, sym, ap, _∙_, length, take, lt-ltb, by-cases}
 use Rattle.words.specs.Word.{pageOf}
 use Rattle.classes.specs.Shape.{shapeOf}
 use Rattle.rules.specs.Rules.{rulesOf}

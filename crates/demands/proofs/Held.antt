@@ -2,16 +2,8 @@
 --     held-releases, held-grows       a direct release, a growth is not refused exactly if each page of the run is held so
 --     unheld-refused, unheld-stays    else it is refused as 12
 --     growth-fits                     and a growth that is not refused is answered yes or no with its reason
-use Prim.Native.Nat.{ℕ, _+_, _-_, _≤_, _<_}
-use native.Mathlib.Omega.{arith}
-use mathlib.Core.Bool.{true, false, cond, false≢true}
-use mathlib.Core.List.{List}
-use mathlib.Core.Logic.{_↔_}
-use mathlib.Core.Path.{_≡_, refl, sym, ap, _∙_}
-use lib.Dec.{eqb, leb}
-use borrow.Author.Tests.{eqb-true, eqb-false, leb-true, leb-false, le-leb, lt-leb, le-ltb}
-use Rattle.facts.proofs.Bools.{by-cases, and-right}
-use Rattle.facts.proofs.Lists.{every-at, every-of}
+use Rattle.facts.proofs.Prelude.{ℕ, _+_, _-_, _≤_, _<_, arith, true, false, cond, false≢true, List, _↔_, _≡_, refl, sym, ap, _∙_, eqb, leb}
+use Rattle.facts.proofs.Prelude.{eqb-true, eqb-false, leb-true, leb-false, le-leb, lt-leb, le-ltb, by-cases, and-right, every-at, every-of}
 use Rattle.words.specs.Host.{hostMax, commitGranted}
 use Rattle.rules.specs.Rules.{rulesOf}
 use Rattle.model.specs.Calls as Calls

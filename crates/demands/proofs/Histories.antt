@@ -4,14 +4,7 @@
 --     run-valid         number 13 is never among its codes
 --     run-represents    the book after it stands for the model's heap after it
 --     run-calls         each reply is the reply to the next call after the history before it
-use Prim.Native.Nat.{ℕ, _≤_}
-use mathlib.Core.Bool.{true}
-use mathlib.Core.List.{List, [], _∷_, _++_}
-use mathlib.Core.Path.{_≡_, refl, sym, ap, _∙_, subst}
-use lib.Dec.{leb}
-use lib.ListN.{length}
-use borrow.Author.Tests.{le-leb}
-use Rattle.facts.specs.Lists.{All}
+use Rattle.facts.proofs.Prelude.{ℕ, _≤_, true, List, [], _∷_, _++_, _≡_, refl, sym, ap, _∙_, subst, leb, length, le-leb, All}
 use Rattle.rules.specs.Rules.{Rules, rulesOf, Fit}
 use Rattle.rules.proofs.Cover.{rules-fit}
 use Rattle.fields.specs.Field.{words}

@@ -1,11 +1,5 @@
 -- Document 02, A.5, holds of the exported calls: a report after a history answers the model's figures.
-use Prim.Native.Nat.{ℕ}
-use mathlib.Core.Bool.{cond, false≢true}
-use mathlib.Core.List.{List}
-use mathlib.Core.Path.{_≡_, refl, sym, ap, _∙_, subst}
-use lib.Dec.{eqb}
-use borrow.Author.Tests.{eqb-true}
-use Rattle.facts.proofs.Bools.{by-cases}
+use Rattle.facts.proofs.Prelude.{ℕ, cond, false≢true, List, _≡_, refl, sym, ap, _∙_, subst, eqb, eqb-true, by-cases}
 use Rattle.model.specs.declared.Figures.{Figures}
 use Rattle.model.specs.Calls as Calls
 use Rattle.model.specs.Calls.{Call, refused, reported, isRefused, wayOf}

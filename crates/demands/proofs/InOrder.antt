@@ -1,9 +1,7 @@
 -- Calls put in an order of specs/InOrder leave the same book, and what each class was answered.
 --     moved       one call, made ahead of others
 --     in-order    all of them
-use mathlib.Core.List.{List, [], _∷_, _++_, append-assoc}
-use mathlib.Core.Option.{some}
-use mathlib.Core.Path.{_≡_, refl, sym, _∙_, subst}
+use Rattle.facts.proofs.Prelude.{List, [], _∷_, _++_, append-assoc, some, _≡_, refl, sym, _∙_, subst}
 use Rattle.model.specs.Calls.{Call, Named, names}
 use Rattle.demands.specs.Start.{Start, Starts}
 use Rattle.demands.specs.Reorders.{same, exchange, Reordered}

@@ -1,15 +1,7 @@
 -- A listed history, made by the exported calls, is answered as the listing goes.
-use Prim.Native.Nat.{ℕ, suc, _+_, _-_, _^_, _≤_, _<_}
-use native.Mathlib.Omega.{arith}
-use mathlib.Core.Bool.{Bool, true, false, cond, false≢true}
-use mathlib.Core.List.{List, [], _∷_, map}
-use mathlib.Core.Option.{Option, none, some, Option·none-ne-some}
-use mathlib.Core.Path.{_≡_, refl, sym, ap, ap₂, _∙_}
-use lib.Dec.{eqb, leb, ltb}
-use borrow.Author.Tests.{eqb-true, eqb-false, ne-eqb, le-leb, lt-leb, leb-true, leb-false, ltb-true, ltb-false}
-use Rattle.facts.specs.Lists.{every, below}
-use Rattle.facts.proofs.Bools.{by-cases}
-use Rattle.facts.proofs.Lists.{every-of}
+use Rattle.facts.proofs.Prelude.{ℕ, suc, _+_, _-_, _^_, _≤_, _<_, arith, Bool, true, false, cond, false≢true, List, [], _∷_, map, Option}
+use Rattle.facts.proofs.Prelude.{none, some, Option·none-ne-some, _≡_, refl, sym, ap, ap₂, _∙_, eqb, leb, ltb, eqb-true, eqb-false}
+use Rattle.facts.proofs.Prelude.{ne-eqb, le-leb, lt-leb, leb-true, leb-false, ltb-true, ltb-false, every, below, by-cases, every-of}
 use Rattle.rules.specs.Rules.{rulesOf}
 use Rattle.model.specs.Cover.{covers, coversRun}
 use Rattle.model.specs.Calls as Calls

@@ -1,13 +1,5 @@
 -- Document 02, A.10, of the exported function (specs/Listing).
-use Prim.Native.Nat.{ℕ}
-use native.Mathlib.Omega.{arith}
-use mathlib.Core.Bool.{false}
-use mathlib.Core.List.{List, _++_}
-use mathlib.Core.Path.{_≡_, sym, _∙_}
-use lib.Dec.{ltb}
-use lib.ListN.{length, drop}
-use borrow.Author.Tests.{le-ltb}
-use Rattle.facts.proofs.Bools.{by-cases, nor-left}
+use Rattle.facts.proofs.Prelude.{ℕ, arith, false, List, _++_, _≡_, sym, _∙_, ltb, length, drop, le-ltb, by-cases, nor-left}
 use Rattle.listing.specs.Listing.{listing, badBounds, badListing, shortHistories, ListingEnds}
 use Rattle.listing.proofs.Theorems as Theorems
 use Rattle.listing.proofs.Answer.{bounds-of}

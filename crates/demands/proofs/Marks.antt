@@ -1,19 +1,10 @@
 -- Document 02, A.3, on any book: no call but a take writes a word of marks, and a take makes it 0 where it does.
 --     Keeps          every word of marks is as it was; Clears, as it was or 0
 --     given-fits     a release that gives a run to the arena has tested HOLES, by which the holes are written; gives-tested, of groups
-use Prim.Native.Nat.{ℕ, zero, suc, _+_, _-_, _*_, _/_, _≤_, _<_}
-use native.Mathlib.Omega.{arith}
-use mathlib.Core.Bool.{Bool, true, false, cond, not, _&&_, _||_, true≢false, false≢true}
-use mathlib.Core.List.{List, [], _∷_, map}
-use mathlib.Core.Logic.{_⊎_, inl, inr, ⊎-elim}
-use mathlib.Core.Option.{Option, none, some}
-use mathlib.Core.Path.{_≡_, refl, sym, ap, _∙_, subst, fun-ext}
-use lib.Dec.{eqb, ltb, leb}
-use lib.ListN.{length, drop, getD, set}
-use lib.Seq.{getD-set-other}
-use borrow.Author.Tests.{ltb-true, ltb-false, leb-true, leb-false, le-leb, lt-ltb, eqb-true, eqb-false, eq-eqb, ne-eqb, not-true, not-false}
-use Rattle.facts.specs.Lists.{isNil, All, every, filter, elem, distinct}
-use Rattle.facts.proofs.Bools.{by-cases, and-left, and-right, nor-left, nor-right}
+use Rattle.facts.proofs.Prelude.{ℕ, zero, suc, _+_, _-_, _*_, _/_, _≤_, _<_, arith, Bool, true, false, cond, not, _&&_, _||_, true≢false, false≢true, List}
+use Rattle.facts.proofs.Prelude.{[], _∷_, map, _⊎_, inl, inr, ⊎-elim, Option, none, some, _≡_, refl, sym, ap, _∙_, subst, fun-ext, eqb, ltb, leb, length}
+use Rattle.facts.proofs.Prelude.{drop, getD, set, getD-set-other, ltb-true, ltb-false, leb-true, leb-false, le-leb, lt-ltb, eqb-true, eqb-false, eq-eqb}
+use Rattle.facts.proofs.Prelude.{ne-eqb, not-true, not-false, isNil, All, every, filter, elem, distinct, by-cases, and-left, and-right, nor-left, nor-right}
 use Rattle.words.specs.Host.{badHost}
 use Rattle.words.specs.Word.{granuleOf, chunkKind, pageOf, countOf}
 use Rattle.classes.specs.declared.Shape.{Shape}

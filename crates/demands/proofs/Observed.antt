@@ -4,14 +4,8 @@
 --     recounted-is          with the runs they are the model's events
 --     observed-answers      so a class's answers are the model's
 --     observed-disjoint     and what the model's events have as `Disjoint` and `IsoDisjoint`, these have
-use Prim.Native.Nat.{ℕ, suc, _/_}
-use mathlib.Core.Bool.{Bool, false, not, _&&_}
-use mathlib.Core.List.{List, [], _∷_, map, head-eq-of-cons-eq, tail-eq-of-cons-eq}
-use mathlib.Core.Logic.{inl, inr}
-use mathlib.Core.Option.{none}
-use mathlib.Core.Path.{_≡_, refl, sym, ap, ap₂, _∙_}
-use Rattle.facts.specs.Lists.{every}
-use Rattle.facts.proofs.Bools.{by-cases}
+use Rattle.facts.proofs.Prelude.{ℕ, suc, _/_, Bool, false, not, _&&_, List, [], _∷_, map, head-eq-of-cons-eq}
+use Rattle.facts.proofs.Prelude.{tail-eq-of-cons-eq, inl, inr, none, _≡_, refl, sym, ap, ap₂, _∙_, every, by-cases}
 use Rattle.classes.specs.Sizes.{pageBytes}
 use Rattle.rules.specs.Rules.{rulesOf}
 use Rattle.model.specs.Calls.{Call, Answer, names}

@@ -1,8 +1,5 @@
 -- Document 02, A.8, holds of the exported calls: the answers of a history that goes on are the model's.
-use Prim.Native.Nat.{ℕ}
-use mathlib.Core.List.{List, [], _∷_, _++_, append-assoc, map}
-use mathlib.Core.Option.{Option}
-use mathlib.Core.Path.{_≡_, refl, sym, ap, ap₂, _∙_, subst}
+use Rattle.facts.proofs.Prelude.{ℕ, List, [], _∷_, _++_, append-assoc, map, Option, _≡_, refl, sym, ap, ap₂, _∙_, subst}
 use Rattle.rules.specs.Rules.{Rules}
 use Rattle.model.specs.declared.Hole.{Hole}
 use Rattle.model.specs.Calls.{Call, Answer}

@@ -1,14 +1,6 @@
 -- The exported calls answer as document 01's own rules do, as far as document 02 claims it: their answers are the model's.
-use Prim.Native.Nat.{ℕ, suc, _*_, _^_, _≤_, _<_}
-use mathlib.Core.Bool.{Bool, true, _&&_}
-use mathlib.Core.List.{List, _++_, append-assoc}
-use mathlib.Core.Path.{_≡_, ap, _∙_, subst}
-use native.Mathlib.Omega.{arith}
-use lib.Dec.{leb, ltb}
-use lib.ListN.{length, take}
-use borrow.Author.Tests.{le-leb, lt-leb, lt-ltb, le-ltb, leb-true}
-use Rattle.facts.specs.Lists.{isNil}
-use Rattle.facts.proofs.Bools.{bool-eq}
+use Rattle.facts.proofs.Prelude.{ℕ, suc, _*_, _^_, _≤_, _<_, arith, Bool, true, _&&_, List, _++_, append-assoc, _≡_, ap, _∙_}
+use Rattle.facts.proofs.Prelude.{subst, leb, ltb, length, take, le-leb, lt-leb, lt-ltb, le-ltb, leb-true, isNil, bool-eq}
 use Rattle.classes.specs.declared.Sized.the-variants.{Small, Medium}
 use Rattle.classes.specs.Sizes.{maxSmallSize, maxMediumSize, pageBytes}
 use Rattle.classes.specs.Lookup.{sizeClass, classForSize, mediumClassForSize}

@@ -1,16 +1,7 @@
 -- Document 02, A.9, holds of the exported calls: rows that are not refused cover the classes, their limits stand in the book, and no class
 -- ever has more runs parked than they allow.
-use Prim.Native.Nat.{ℕ, suc, _*_, _≤_, _<_}
-use native.Mathlib.Omega.{arith}
-use mathlib.Core.Bool.{Bool, true, false, cond, _&&_, false≢true}
-use mathlib.Core.List.{List, [], _∷_}
-use mathlib.Core.Option.{Option, none, some}
-use mathlib.Core.Path.{_≡_, refl, sym, ap, _∙_, subst}
-use lib.Dec.{leb, ltb}
-use lib.ListN.{length}
-use borrow.Author.Tests.{ltb-true, leb-true, le-leb, lt-ltb, le-ltb}
-use Rattle.facts.specs.Lists.{isNil, every}
-use Rattle.facts.proofs.Bools.{by-cases, and-left, and-right}
+use Rattle.facts.proofs.Prelude.{ℕ, suc, _*_, _≤_, _<_, arith, Bool, true, false, cond, _&&_, false≢true, List, [], _∷_, Option, none, some, _≡_, refl, sym}
+use Rattle.facts.proofs.Prelude.{ap, _∙_, subst, leb, ltb, length, ltb-true, leb-true, le-leb, lt-ltb, le-ltb, isNil, every, by-cases, and-left, and-right}
 use Rattle.words.specs.Word.{pageOf}
 use Rattle.classes.specs.declared.Shape.{Shape}
 use Rattle.classes.specs.Shape.{shapeOf, smallShape, mediumShape}

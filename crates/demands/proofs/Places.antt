@@ -4,17 +4,8 @@
 --     reached-class    each class after a history is a `ReachedClass`
 --     lies             in such a class it lies on a page; same-page, on every page that begins where that one does it is out
 --     byte-held        a page with one of its bytes is held by its class
-use Prim.Native.Nat.{ℕ, _+_, _-_, _*_, _/_, _≤_, _<_}
-use native.Mathlib.Omega.{arith}
-use native.Mathlib.Nat.{mul-le-mul-right}
-use mathlib.Core.Bool.{true, not, false≢true}
-use mathlib.Core.List.{List}
-use mathlib.Core.Option.{Option, none, some}
-use mathlib.Core.Path.{_≡_, refl, sym}
-use lib.Dec.{ltb}
-use borrow.Author.Tests.{eq-eqb, ltb-true, ltb-false}
-use Rattle.facts.specs.Lists.{elem, isSome}
-use Rattle.facts.proofs.Bools.{by-cases, and-left}
+use Rattle.facts.proofs.Prelude.{ℕ, _+_, _-_, _*_, _/_, _≤_, _<_, arith, mul-le-mul-right, true, not, false≢true, List, Option}
+use Rattle.facts.proofs.Prelude.{none, some, _≡_, refl, sym, ltb, eq-eqb, ltb-true, ltb-false, elem, isSome, by-cases, and-left}
 use Rattle.words.specs.Word.{granuleOf}
 use Rattle.classes.specs.declared.Shape.{Shape}
 use Rattle.classes.specs.Sizes.{pageBytes, granuleBytes}

@@ -1,10 +1,5 @@
 -- Document 02, A.1, holds of the exported calls: a history's answers are the model's, and the plan is the one of crate `plan`.
-use Prim.Native.Nat.{ℕ}
-use native.Mathlib.Omega.{arith}
-use mathlib.Core.Bool.{false}
-use mathlib.Core.List.{List}
-use mathlib.Core.Path.{_≡_, sym, _∙_}
-use Rattle.facts.proofs.Bools.{by-cases}
+use Rattle.facts.proofs.Prelude.{ℕ, arith, false, List, _≡_, sym, _∙_, by-cases}
 use Rattle.plan.specs.Plan.{planTotal, badPlan}
 use Rattle.plan.specs.Code.{PlanEnds}
 use Rattle.plan.proofs.Theorems.{planned}

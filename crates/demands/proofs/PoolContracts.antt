@@ -1,17 +1,8 @@
 -- What a caller sees of the pool's exported functions is what `poolCall` says (specs/PoolContracts).
 --     pool-observes-call    of one function
 --     pool-in-turn          of calls in turn
-use Prim.Native.Nat.{ℕ, zero, suc, _-_, _≤_, _<_}
-use native.Mathlib.Omega.{arith}
-use mathlib.Core.Bool.{Bool, true, false, cond, not, _||_}
-use mathlib.Core.List.{List, [], _∷_, _++_, map}
-use mathlib.Core.Option.{Option, none, some}
-use mathlib.Core.Path.{_≡_, refl, ap, ap₂, _∙_}
-use lib.Dec.{eqb, ltb}
-use lib.ListN.{length, getD}
-use borrow.Author.Tests.{ne-eqb, eqb-false}
-use Rattle.facts.specs.Lists.{All}
-use Rattle.facts.proofs.Bools.{by-cases}
+use Rattle.facts.proofs.Prelude.{ℕ, zero, suc, _-_, _≤_, _<_, arith, Bool, true, false, cond, not, _||_, List, [], _∷_, _++_, map}
+use Rattle.facts.proofs.Prelude.{Option, none, some, _≡_, refl, ap, ap₂, _∙_, eqb, ltb, length, getD, ne-eqb, eqb-false, All, by-cases}
 use Rattle.classes.specs.Shape.{shapeOf, classCount}
 use Rattle.classes.specs.declared.Shape.{Shape}
 use Rattle.classes.proofs.Shapes.{shape-sound}

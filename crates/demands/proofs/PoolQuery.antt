@@ -2,18 +2,8 @@
 --     live-low        an entry not yet released is of one of the 76 classes
 --     granted-class   of a granted block, on any book, OWNER of its page has the class
 --     stocked-rep, few-rep    COUNT is the length of the stock, and in its range, on a book that stands for a pool
-use Prim.Native.Nat.{ℕ, zero, suc, _+_, _-_, _≤_}
-use native.Mathlib.Omega.{arith}
-use mathlib.Core.Bool.{true, _&&_}
-use mathlib.Core.List.{List, [], _∷_}
-use mathlib.Core.Logic.{inl, inr}
-use mathlib.Core.Option.{Option, none, some}
-use mathlib.Core.Path.{_≡_, refl, sym, ap, subst}
-use lib.Dec.{eqb, ltb, leb}
-use lib.ListN.{length}
-use borrow.Author.Tests.{eqb-true, le-leb, ltb-true, leb-true}
-use Rattle.facts.proofs.Bools.{and-left, and-right}
-use Rattle.facts.proofs.Lists.{every-at}
+use Rattle.facts.proofs.Prelude.{ℕ, zero, suc, _+_, _-_, _≤_, arith, true, _&&_, List, [], _∷_, inl, inr, Option, none, some, _≡_, refl}
+use Rattle.facts.proofs.Prelude.{sym, ap, subst, eqb, ltb, leb, length, eqb-true, le-leb, ltb-true, leb-true, and-left, and-right, every-at}
 use Rattle.classes.specs.Shape.{shapeOf, classCount}
 use Rattle.fields.specs.Field.{arena, page, size, frontier, owner, get}
 use Rattle.fields.specs.Ranges.{metaFault}

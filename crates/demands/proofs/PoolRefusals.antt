@@ -1,13 +1,7 @@
 -- Each of the pool's calls answers the first number of its table that applies, and then leaves the book and its out-parameter.
-use Prim.Native.Nat.{ℕ, suc, _-_, _*_, _<_, _≤_}
-use native.Mathlib.Omega.{arith}
-use mathlib.Core.Bool.{Bool, true, false, cond, not, _&&_, _||_}
-use mathlib.Core.List.{List, [], _∷_, _++_}
-use mathlib.Core.Logic.{_↔_}
-use mathlib.Core.Path.{_≡_, refl, sym, ap, ap₂, _∙_}
-use lib.Dec.{eqb, ltb, leb}
-use borrow.Author.Tests.{eq-eqb, eqb-true, eqb-false, ltb-true, ltb-false, lt-ltb, le-ltb, le-leb, lt-leb, leb-true, leb-false, not-false}
-use Rattle.facts.proofs.Bools.{by-cases, and-left, and-right, and-no, or-right}
+use Rattle.facts.proofs.Prelude.{ℕ, suc, _-_, _*_, _<_, _≤_, arith, Bool, true, false, cond, not, _&&_, _||_, List, [], _∷_, _++_, _↔_}
+use Rattle.facts.proofs.Prelude.{_≡_, refl, sym, ap, ap₂, _∙_, eqb, ltb, leb, eq-eqb, eqb-true, eqb-false, ltb-true, ltb-false, lt-ltb}
+use Rattle.facts.proofs.Prelude.{le-ltb, le-leb, lt-leb, leb-true, leb-false, not-false, by-cases, and-left, and-right, and-no, or-right}
 use Rattle.words.specs.Host.{badHost, digit}
 use Rattle.words.specs.Word.{kindOf}
 use Rattle.classes.specs.declared.Shape.{Shape}

@@ -2,15 +2,8 @@
 --     run-is           its answers are the model's
 --     pool-rep         the book that it leaves stands for the model's pool
 --     observed-is      the calls with their answers are the model's events without the runs
-use Prim.Native.Nat.{ℕ, _≤_}
-use mathlib.Core.Bool.{true}
-use mathlib.Core.List.{List, [], _∷_, _++_, map, head-eq-of-cons-eq, tail-eq-of-cons-eq}
-use mathlib.Core.Option.{none}
-use mathlib.Core.Path.{_≡_, refl, sym, ap, ap₂, _∙_, subst}
-use lib.Dec.{ltb, leb}
-use lib.ListN.{length}
-use borrow.Author.Tests.{le-leb}
-use Rattle.facts.proofs.Bools.{by-cases}
+use Rattle.facts.proofs.Prelude.{ℕ, _≤_, true, List, [], _∷_, _++_, map, head-eq-of-cons-eq, tail-eq-of-cons-eq}
+use Rattle.facts.proofs.Prelude.{none, _≡_, refl, sym, ap, ap₂, _∙_, subst, ltb, leb, length, le-leb, by-cases}
 use Rattle.words.specs.Host.{badHost}
 use Rattle.classes.specs.Shape.{classCount}
 use Rattle.rules.specs.Rules.{Rules, rulesOf, Fit}

@@ -1,16 +1,6 @@
 -- The pool's demand holds of every history of the exported calls, on the words.
-use Prim.Native.Nat.{ℕ, zero, suc, _≤_}
-use mathlib.Core.Bool.{true, false, true≢false}
-use mathlib.Core.List.{List, [], _∷_, _++_, map, head-eq-of-cons-eq, tail-eq-of-cons-eq}
-use mathlib.Core.Logic.{_↔_, inl, inr}
-use mathlib.Core.Option.{none, some}
-use mathlib.Core.Path.{_≡_, refl, sym, ap, ap₂, _∙_, subst}
-use lib.Dec.{eqb, ltb}
-use lib.ListN.{length, getD, replicate}
-use native.Mathlib.Omega.{arith}
-use borrow.Author.Tests.{not-true}
-use Rattle.facts.specs.Lists.{elem, distinct}
-use Rattle.facts.proofs.Bools.{by-cases, and-left, and-right}
+use Rattle.facts.proofs.Prelude.{ℕ, zero, suc, _≤_, arith, true, false, true≢false, List, [], _∷_, _++_, map, head-eq-of-cons-eq, tail-eq-of-cons-eq, _↔_, inl, inr, none}
+use Rattle.facts.proofs.Prelude.{some, _≡_, refl, sym, ap, ap₂, _∙_, subst, eqb, ltb, length, getD, replicate, not-true, elem, distinct, by-cases, and-left, and-right}
 use Rattle.words.specs.Host.{badHost}
 use Rattle.words.specs.Word.{granuleOf}
 use Rattle.classes.specs.Shape.{shapeOf, classCount}

@@ -1,15 +1,7 @@
 -- Number 13's tests are the table of specs/Ranges over the rows that the call reads. n is the arena's length, LENGTH of the book.
-use Prim.Native.Nat.{ℕ, zero, suc, _+_, _-_, _/_, _≤_, min}
-use native.Mathlib.Omega.{arith}
-use native.Mathlib.Nat.{add-zero}
-use mathlib.Core.Bool.{Bool, true, false, cond, not, _&&_, _||_, and-true, and-false, and-assoc, and-comm}
-use mathlib.Core.List.{List, [], _∷_, _++_, map}
-use mathlib.Core.Path.{_≡_, refl, sym, ap, _∙_}
-use lib.Dec.{eqb, ltb, leb}
-use lib.ListN.{length}
-use borrow.Author.Tests.{leb-true, le-leb, lt-leb, ltb-true, ltb-false, eqb-true, eqb-false, eq-eqb, ne-eqb}
-use Rattle.facts.specs.Lists.{every, below}
-use Rattle.facts.proofs.Bools.{by-cases, and-swap}
+use Rattle.facts.proofs.Prelude.{ℕ, zero, suc, _+_, _-_, _/_, _≤_, min, arith, add-zero, Bool, true, false, cond, not, _&&_, _||_, and-true}
+use Rattle.facts.proofs.Prelude.{and-false, and-assoc, and-comm, List, [], _∷_, _++_, map, _≡_, refl, sym, ap, _∙_, eqb, ltb, leb, length, leb-true}
+use Rattle.facts.proofs.Prelude.{le-leb, lt-leb, ltb-true, ltb-false, eqb-true, eqb-false, eq-eqb, ne-eqb, every, below, by-cases, and-swap}
 use Rattle.words.specs.Word.{countOf, pageOf}
 use Rattle.classes.specs.declared.Shape.{Shape}
 use Rattle.classes.specs.Shape.{classCount}

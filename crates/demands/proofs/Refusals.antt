@@ -3,17 +3,8 @@
 --     .. -refuses         for each function
 --     demand-1            all of them, in one record
 --     refused-exactly     a call is refused exactly when a number of its table applies
-use Prim.Native.Nat.{ℕ, zero, suc}
-use native.Mathlib.Omega.{arith}
-use mathlib.Core.Bool.{Bool, true, false, cond, not, true≢false}
-use mathlib.Core.List.{List, [], _∷_}
-use mathlib.Core.Option.{Option, none, some}
-use mathlib.Core.Path.{_≡_, refl, sym, ap, _∙_}
-use mathlib.Core.Logic.{_↔_}
-use lib.Dec.{eqb, leb, ltb}
-use borrow.Author.Tests.{ltb-true, lt-leb, eqb-true, eqb-false}
-use Rattle.facts.specs.Lists.{every, any}
-use Rattle.facts.proofs.Bools.{by-cases, and-left, and-right}
+use Rattle.facts.proofs.Prelude.{ℕ, zero, suc, arith, Bool, true, false, cond, not, true≢false, List, [], _∷_, _↔_, Option, none, some, _≡_, refl}
+use Rattle.facts.proofs.Prelude.{sym, ap, _∙_, eqb, leb, ltb, ltb-true, lt-leb, eqb-true, eqb-false, every, any, by-cases, and-left, and-right}
 use Rattle.words.specs.Host.{digit}
 use Rattle.classes.specs.Sizes.{smallSizes, mediumSizes}
 use Rattle.classes.specs.Lookup.{firstFit}

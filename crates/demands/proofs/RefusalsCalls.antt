@@ -1,14 +1,7 @@
 -- Each definition that an exported function's contract cites answers the first number of its table that applies, and keeps what it was
 -- lent where there is one. n is the arena's length in the book b.
-use Prim.Native.Nat.{ℕ, _+_, _-_}
-use mathlib.Core.Bool.{Bool, true, false, cond, not, _||_}
-use mathlib.Core.List.{List, [], _∷_, map}
-use mathlib.Core.Option.{Option, none, some}
-use mathlib.Core.Path.{_≡_, refl, _∙_}
-use lib.Dec.{eqb, ltb, leb}
-use lib.ListN.{length}
-use Rattle.facts.specs.Lists.{isNil, every}
-use Rattle.facts.proofs.Bools.{by-cases}
+use Rattle.facts.proofs.Prelude.{ℕ, _+_, _-_, Bool, true, false, cond, not, _||_, List, [], _∷_, map, Option}
+use Rattle.facts.proofs.Prelude.{none, some, _≡_, refl, _∙_, eqb, ltb, leb, length, isNil, every, by-cases}
 use Rattle.words.specs.Host.{badHost}
 use Rattle.words.specs.Word.{chunkKind}
 use Rattle.classes.specs.declared.Shape.{Shape}

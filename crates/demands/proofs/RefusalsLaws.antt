@@ -1,14 +1,7 @@
 -- A chain of tests, each with a number that it answers, is a table of rows: one law for a test, and one for the tests of a book's
 -- length. R is what a definition of a call yields, with its number and what its refusals keep.
-use Prim.Native.Nat.{ℕ}
-use native.Mathlib.Omega.{arith}
-use mathlib.Core.Bool.{Bool, true, false, cond, not, _&&_, _||_}
-use mathlib.Core.List.{List, [], _∷_}
-use mathlib.Core.Path.{_≡_, refl}
-use lib.Dec.{eqb, ltb, leb}
-use lib.ListN.{length}
-use borrow.Author.Tests.{ltb-true, ltb-false, lt-leb, le-leb, eqb-true, eqb-false}
-use Rattle.facts.proofs.Bools.{by-cases}
+use Rattle.facts.proofs.Prelude.{ℕ, arith, Bool, true, false, cond, not, _&&_, _||_, List, [], _∷_, _≡_, refl, eqb}
+use Rattle.facts.proofs.Prelude.{ltb, leb, length, ltb-true, ltb-false, lt-leb, le-leb, eqb-true, eqb-false, by-cases}
 use Rattle.fields.specs.Field.{words}
 use Rattle.fields.specs.Ranges.{within, between, maxPages, lengthFault}
 use Rattle.demands.specs.Refusals.{badLength, tooShort, Row, firstNumber}

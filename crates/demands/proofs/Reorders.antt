@@ -1,12 +1,5 @@
 -- Exchanges of neighbouring calls, any number of them, leave the same book and what each class was answered (document 02, A.14).
-use Prim.Native.Nat.{ℕ}
-use mathlib.Core.Bool.{false}
-use mathlib.Core.List.{List, [], _∷_, _++_, append-assoc}
-use mathlib.Core.Option.{none, some}
-use mathlib.Core.Path.{_≡_, refl, sym, ap, _∙_}
-use lib.Dec.{eqb}
-use borrow.Author.Tests.{eqb-true, eqb-false, ne-eqb}
-use Rattle.facts.proofs.Bools.{by-cases}
+use Rattle.facts.proofs.Prelude.{ℕ, false, List, [], _∷_, _++_, append-assoc, none, some, _≡_, refl, sym, ap, _∙_, eqb, eqb-true, eqb-false, ne-eqb, by-cases}
 use Rattle.model.specs.Calls.{Call, Answer, Named, names}
 use Rattle.model.specs.History.{Event, isOf, answersOf}
 use Rattle.vigbuso.specs.Direct.{openOn}

@@ -2,16 +2,8 @@
 --     repeat-exactly    A.2
 --     marks-aside       A.3: the answers
 --     run-unmarked      A.3: the marks
-use Prim.Native.Nat.{ℕ, _+_}
-use native.Mathlib.Omega.{arith}
-use mathlib.Core.Bool.{Bool, true, false, cond, not, _&&_, _||_, true≢false, false≢true}
-use mathlib.Core.List.{List, [], _∷_, _++_}
-use mathlib.Core.Logic.{_↔_}
-use mathlib.Core.Path.{_≡_, refl, sym, ap, _∙_}
-use lib.Dec.{eqb, leb}
-use borrow.Author.Tests.{lt-ltb, not-true}
-use Rattle.facts.specs.Lists.{isNil, filter, every, distinct}
-use Rattle.facts.proofs.Bools.{by-cases, and-left, and-right}
+use Rattle.facts.proofs.Prelude.{ℕ, _+_, arith, Bool, true, false, cond, not, _&&_, _||_, true≢false, false≢true, List, [], _∷_, _++_, _↔_, _≡_}
+use Rattle.facts.proofs.Prelude.{refl, sym, ap, _∙_, eqb, leb, lt-ltb, not-true, isNil, filter, every, distinct, by-cases, and-left, and-right}
 use Rattle.words.specs.Host.{badHost}
 use Rattle.words.specs.Word.{chunkKind}
 use Rattle.classes.specs.declared.Shape.{Shape}

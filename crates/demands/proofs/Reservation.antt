@@ -1,10 +1,5 @@
 -- The reservation of every history of the exported calls is the one that its calls and answers tell.
-use Prim.Native.Nat.{ℕ}
-use mathlib.Core.Bool.{true}
-use mathlib.Core.List.{List, [], _∷_}
-use mathlib.Core.Logic.{_↔_}
-use mathlib.Core.Option.{none}
-use mathlib.Core.Path.{_≡_, refl, sym, ap, _∙_}
+use Rattle.facts.proofs.Prelude.{ℕ, true, List, [], _∷_, _↔_, none, _≡_, refl, sym, ap, _∙_}
 use Rattle.rules.specs.Rules.{rulesOf}
 use Rattle.model.specs.Calls as Calls
 use Rattle.model.specs.Calls.{Call, contained}

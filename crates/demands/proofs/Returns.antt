@@ -4,18 +4,9 @@
 --     repeated, not-out, not-together    a list with a block out that stands twice is refused as 15, else one with a block that is not out as 10, one of
 --                                        blocks of several runs as 11
 --     word-returns                       so a block alone is released exactly if it is out, which is that it is an entry's not yet released
-use Prim.Native.Nat.{ℕ, _+_, _*_, _^_, _≤_, _<_}
-use native.Mathlib.Omega.{arith}
-use native.Mathlib.Nat.{mul-le-mul-right}
-use mathlib.Core.Bool.{Bool, true, false, cond, not, false≢true, true≢false}
-use mathlib.Core.List.{List, [], _∷_}
-use mathlib.Core.Logic.{_↔_, _⊎_, inl, inr}
-use mathlib.Core.Option.{Option, none, some}
-use mathlib.Core.Path.{_≡_, refl, sym, ap, _∙_}
-use lib.Dec.{eqb}
-use borrow.Author.Tests.{eq-eqb, eqb-true, not-true, not-false, ltb-false, le-ltb}
-use Rattle.facts.specs.Lists.{isNil, filter, every, isSome, elem, distinct, count}
-use Rattle.facts.proofs.Bools.{by-cases, and-left}
+use Rattle.facts.proofs.Prelude.{ℕ, _+_, _*_, _^_, _≤_, _<_, arith, mul-le-mul-right, Bool, true, false, cond, not, false≢true, true≢false, List}
+use Rattle.facts.proofs.Prelude.{[], _∷_, _↔_, _⊎_, inl, inr, Option, none, some, _≡_, refl, sym, ap, _∙_, eqb, eq-eqb, eqb-true, not-true}
+use Rattle.facts.proofs.Prelude.{not-false, ltb-false, le-ltb, isNil, filter, every, isSome, elem, distinct, count, by-cases, and-left}
 use Rattle.words.specs.Host.{hostMax, badHost}
 use Rattle.words.specs.Word.{kindBits}
 use Rattle.words.proofs.RoundTrip.{kind-block}

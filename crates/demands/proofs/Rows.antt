@@ -1,12 +1,7 @@
 -- Number 13's tests look at no word but those of the rows that specs/Reads lists, and LENGTH: two books that have the same words there
 -- pass or fail alike.
-use Prim.Native.Nat.{ℕ, zero, suc, _+_, _-_, _/_}
-use mathlib.Core.Bool.{Bool, true, false, cond, not, _&&_, _||_}
-use mathlib.Core.List.{List, [], _∷_, _++_, map}
-use mathlib.Core.Path.{_≡_, refl, sym, ap, _∙_, subst}
-use lib.Dec.{eqb}
-use Rattle.facts.specs.Lists.{every, All, below}
-use Rattle.facts.proofs.Bools.{by-cases}
+use Rattle.facts.proofs.Prelude.{ℕ, zero, suc, _+_, _-_, _/_, Bool, true, false, cond, not, _&&_, _||_, List, []}
+use Rattle.facts.proofs.Prelude.{_∷_, _++_, map, _≡_, refl, sym, ap, _∙_, subst, eqb, every, All, below, by-cases}
 use Rattle.words.specs.Host.{digit}
 use Rattle.words.specs.Word.{countOf, pageOf}
 use Rattle.classes.specs.declared.Shape.{Shape}

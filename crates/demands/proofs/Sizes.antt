@@ -1,17 +1,8 @@
 -- Computed tests over the two size tables.
 --     block-bytes    an entry's bytes are its class's size in the table
 --     one-first      a word is a block of one run only: no two of a class's runs that overlap have a block at the same place
-use Prim.Native.Nat.{ℕ, _+_, _-_, _*_, _%_, _≤_, _<_}
-use native.Mathlib.Omega.{arith}
-use native.Mathlib.Nat.{mul-le-mul-right, mul-mod-left, mul-sub, mul-comm}
-use mathlib.Core.Bool.{Bool, true, false, _||_, false≢true}
-use mathlib.Core.Path.{_≡_, refl, ap, _∙_}
-use lib.Dec.{eqb, leb, ltb}
-use lib.ListN.{getD}
-use borrow.Author.Tests.{eqb-true, lt-ltb, lt-leb, le-ltb, ltb-true, ltb-false, ne-eqb}
-use Rattle.facts.specs.Lists.{every, below}
-use Rattle.facts.proofs.Bools.{by-cases}
-use Rattle.facts.proofs.Lists.{every-at}
+use Rattle.facts.proofs.Prelude.{ℕ, _+_, _-_, _*_, _%_, _≤_, _<_, arith, mul-le-mul-right, mul-mod-left, mul-sub, mul-comm, Bool, true, false, _||_, false≢true, _≡_}
+use Rattle.facts.proofs.Prelude.{refl, ap, _∙_, eqb, leb, ltb, getD, eqb-true, lt-ltb, lt-leb, le-ltb, ltb-true, ltb-false, ne-eqb, every, below, by-cases, every-at}
 use Rattle.classes.specs.declared.Shape.{Shape}
 use Rattle.classes.specs.Sizes.{smallSizes, mediumSizes, granuleBytes}
 use Rattle.classes.specs.Shape.{smallShape, mediumShape, shapeOf}

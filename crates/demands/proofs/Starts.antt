@@ -3,9 +3,7 @@
 --     as-opening     the book and the replies are those
 --     observed-is    so is what is told of them
 --     represents     so the book stands for the model's heap; `next-is` and `next-agrees` are of one more call
-use Prim.Native.Nat.{ℕ}
-use mathlib.Core.List.{List, [], _∷_, _++_}
-use mathlib.Core.Path.{_≡_, refl, sym, ap, subst}
+use Rattle.facts.proofs.Prelude.{ℕ, List, [], _∷_, _++_, _≡_, refl, sym, ap, subst}
 use Rattle.model.specs.Calls.{Call}
 use Rattle.model.specs.Heap.{step}
 use Rattle.model.specs.History.{heapAfter}

@@ -1,9 +1,5 @@
 -- Demands 2 and 3 hold of every history of the exported calls, on the words.
-use Prim.Native.Nat.{ℕ, _≤_}
-use mathlib.Core.List.{List, _∷_, _++_}
-use mathlib.Core.Logic.{_↔_}
-use mathlib.Core.Path.{_≡_, sym, ap, _∙_, subst}
-use Rattle.facts.specs.Lists.{All}
+use Rattle.facts.proofs.Prelude.{ℕ, _≤_, List, _∷_, _++_, _↔_, _≡_, sym, ap, _∙_, subst, All}
 use Rattle.rules.specs.Rules.{rulesOf}
 use Rattle.fields.specs.Ranges.{maxPages}
 use Rattle.model.specs.declared.Hole.{Hole}

@@ -1,15 +1,7 @@
 -- Document 02, A.7, holds of the exported call's definition on the words: for every book that opens, every trace and all lent lists.
-use Prim.Native.Nat.{ℕ, zero, suc, _≤_, _<_}
-use native.Mathlib.Omega.{arith}
-use mathlib.Core.Bool.{true, false, cond, _&&_, true≢false}
-use mathlib.Core.List.{List, [], _∷_, map}
-use mathlib.Core.Logic.{_⊎_, inl, inr}
-use mathlib.Core.Path.{_≡_, sym, ap, _∙_}
-use lib.Dec.{eqb, leb}
+use Rattle.facts.proofs.Prelude.{ℕ, zero, suc, _≤_, _<_, arith, true, false, cond, _&&_, true≢false, List, [], _∷_, map, _⊎_}
+use Rattle.facts.proofs.Prelude.{inl, inr, _≡_, sym, ap, _∙_, eqb, leb, length, length-map, getD, eqb-true, eqb-false, by-cases}
 use lib.ListN as ListN
-use lib.ListN.{length, length-map, getD}
-use borrow.Author.Tests.{eqb-true, eqb-false}
-use Rattle.facts.proofs.Bools.{by-cases}
 use Rattle.rules.specs.Rules.{rulesOf}
 use Rattle.fields.specs.Field.{words}
 use Rattle.fields.specs.Ranges.{maxPages, lengthFault}

@@ -2,17 +2,8 @@
 --     listedWord        the word of a block in the lent list on the way: flipped if the block is back
 --     restored-listed   at the end each is as it was handed out
 --     placed            a place that is out: its word, the call that releases it, and the counts without it
-use Prim.Native.Nat.{ℕ, zero, suc, _+_, _-_, _*_, _^_, _≤_}
-use native.Mathlib.Omega.{arith}
-use mathlib.Core.Bool.{true, false, cond, false≢true}
-use mathlib.Core.List.{List, [], _∷_, _++_, map}
-use mathlib.Core.Logic.{_⊎_, inl, inr}
-use mathlib.Core.Path.{_≡_, refl, ap}
-use lib.Dec.{eqb}
-use lib.ListN.{length, getD}
-use borrow.Author.Tests.{eqb-true}
-use Rattle.facts.specs.Lists.{All, total}
-use Rattle.facts.proofs.Bools.{by-cases}
+use Rattle.facts.proofs.Prelude.{ℕ, zero, suc, _+_, _-_, _*_, _^_, _≤_, arith, true, false, cond, false≢true, List, [], _∷_}
+use Rattle.facts.proofs.Prelude.{_++_, map, _⊎_, inl, inr, _≡_, refl, ap, eqb, length, getD, eqb-true, All, total, by-cases}
 use Rattle.words.specs.Word.{kindBits, kindOf}
 use Rattle.model.specs.Entries.{Entry, In, entriesFrom, blockBytes}
 use Rattle.trace.specs.Trace.{Handed, handed, isOut, bytesOf, outAt, backAt, callsAt, backOf}

@@ -3,17 +3,8 @@
 --     still-append   a take adds its entries
 --     still-back     a release of one place takes just that entry away
 --     live-bytes     the bytes of the entries not yet released are at most the arena's
-use Prim.Native.Nat.{ℕ, zero, suc, _+_, _-_, _*_, _≤_}
-use native.Mathlib.Omega.{arith}
-use mathlib.Core.Bool.{Bool, true, false, cond, not, false≢true}
-use mathlib.Core.List.{List, [], _∷_, _++_, map}
-use mathlib.Core.Logic.{inl, inr}
-use mathlib.Core.Path.{_≡_, refl, sym, ap, _∙_}
-use lib.Dec.{eqb, ltb}
-use lib.ListN.{length}
-use borrow.Author.Tests.{eq-eqb, eqb-true, ltb-true, ltb-false, le-ltb}
-use Rattle.facts.specs.Lists.{total, filter}
-use Rattle.facts.proofs.Bools.{by-cases, and-no}
+use Rattle.facts.proofs.Prelude.{ℕ, zero, suc, _+_, _-_, _*_, _≤_, arith, Bool, true, false, cond, not, false≢true, List, [], _∷_, _++_, map, inl, inr}
+use Rattle.facts.proofs.Prelude.{_≡_, refl, sym, ap, _∙_, eqb, ltb, length, eq-eqb, eqb-true, ltb-true, ltb-false, le-ltb, total, filter, by-cases, and-no}
 use Rattle.classes.specs.Sizes.{pageBytes}
 use Rattle.classes.proofs.Shapes.{shape-sound}
 use Rattle.rules.specs.Rules.{rulesOf}

@@ -1,18 +1,9 @@
 -- A trace on the model: a word stops it exactly if there is a reason, and its highest bytes.
 --     reason-stops, stops-reason    a word stops it exactly if there is a `Reason`
 --     highest-is                    the highest bytes are the maximum over the moments after each word
-use Prim.Native.Nat.{ℕ, zero, suc, _+_, _/_, _%_, _^_, _≤_}
-use native.Mathlib.Omega.{arith}
-use mathlib.Core.Bool.{true}
-use mathlib.Core.List.{List, [], _∷_}
-use mathlib.Core.Logic.{_⊎_, inl, inr}
-use mathlib.Core.Path.{_≡_, refl, sym, _∙_}
-use lib.Dec.{eqb, ltb}
+use Rattle.facts.proofs.Prelude.{ℕ, zero, suc, _+_, _/_, _%_, _^_, _≤_, arith, true, List, [], _∷_, _⊎_, inl, inr, _≡_, refl, sym, _∙_, eqb, ltb}
+use Rattle.facts.proofs.Prelude.{length, eq-eqb, ne-eqb, eqb-true, eqb-false, lt-ltb, le-ltb, ltb-true, ltb-false, not-true, total, by-cases}
 use lib.ListN as ListN
-use lib.ListN.{length}
-use borrow.Author.Tests.{eq-eqb, ne-eqb, eqb-true, eqb-false, lt-ltb, le-ltb, ltb-true, ltb-false, not-true}
-use Rattle.facts.specs.Lists.{total}
-use Rattle.facts.proofs.Bools.{by-cases}
 use Rattle.trace.specs.Trace.{Reach, Room, Say, take, back, report, wrong, sayOf, max, bytesOf, outAt, offered, does, stops, after, reachFrom, atOpening}
 use Rattle.demands.specs.Trace.{Highest, Reason, noKind, otherBits, noClass, notOut, noBlocks, noFigures}
 

@@ -1,13 +1,5 @@
 -- Demand 1 of a trace: numbers 1, 2 and 16, in this order; but for 16 it keeps all that it was lent.
-use Prim.Native.Nat.{ℕ, _≤_}
-use native.Mathlib.Omega.{arith}
-use mathlib.Core.Bool.{true, cond}
-use mathlib.Core.List.{List, [], _∷_}
-use mathlib.Core.Path.{_≡_, refl, _∙_}
-use lib.Dec.{eqb, ltb}
-use lib.ListN.{length}
-use borrow.Author.Tests.{eqb-true, eqb-false, lt-ltb, le-ltb}
-use Rattle.facts.proofs.Bools.{by-cases}
+use Rattle.facts.proofs.Prelude.{ℕ, _≤_, arith, true, cond, List, [], _∷_, _≡_, refl, _∙_, eqb, ltb, length, eqb-true, eqb-false, lt-ltb, le-ltb, by-cases}
 use Rattle.fields.specs.Ranges.{lengthFault}
 use Rattle.trace.specs.Trace.{Room, Reach, atOpening, after, stops, carriedFrom, carried}
 use Rattle.trace.specs.Words.{Traced, roomOf, traceOn}

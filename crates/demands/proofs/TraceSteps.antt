@@ -2,18 +2,8 @@
 --     take-step      a take is not refused, answers the model's blocks, and leaves the book after the history with it
 --     back-step      the block of an entry not yet released is of the class that owns its page, and its release is not refused
 --     report-is      a report has the model's figures
-use Prim.Native.Nat.{ℕ, suc, _+_, _-_, _/_, _≤_}
-use native.Mathlib.Omega.{arith}
-use mathlib.Core.Bool.{Bool, true, false, cond}
-use mathlib.Core.List.{List, [], _∷_, _++_}
-use mathlib.Core.Option.{Option, none, some}
-use mathlib.Core.Path.{_≡_, refl, sym, ap, _∙_}
-use lib.Dec.{eqb, ltb}
-use lib.ListN.{length}
-use lib.Seq.{length-take-le}
-use borrow.Author.Tests.{eqb-true, ltb-true, ltb-false, lt-ltb, le-ltb, le-leb}
-use Rattle.facts.specs.Lists.{every}
-use Rattle.facts.proofs.Bools.{by-cases, and-left}
+use Rattle.facts.proofs.Prelude.{ℕ, suc, _+_, _-_, _/_, _≤_, arith, Bool, true, false, cond, List, [], _∷_, _++_, Option, none, some, _≡_, refl, sym, ap}
+use Rattle.facts.proofs.Prelude.{_∙_, eqb, ltb, length, length-take-le, eqb-true, ltb-true, ltb-false, lt-ltb, le-ltb, le-leb, every, by-cases, and-left}
 use Rattle.words.specs.Host.{hostMax}
 use Rattle.classes.specs.declared.Shape.{Shape}
 use Rattle.classes.specs.Sizes.{pageBytes}

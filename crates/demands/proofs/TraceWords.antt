@@ -4,17 +4,9 @@
 --     stops-is    a word stops both or neither
 --     does-is     one word, on the words and on the model
 --     whole       a whole trace
-use Prim.Native.Nat.{ℕ, suc, _+_, _-_, _*_, _/_, _%_, _^_, _≤_}
-use native.Mathlib.Omega.{arith}
-use mathlib.Core.Bool.{true, false, _&&_}
-use mathlib.Core.List.{List, [], _∷_, _++_, map, append-assoc, append-nil}
-use mathlib.Core.Path.{_≡_, refl, sym, ap, ap₂, _∙_}
-use lib.Dec.{eqb, ltb}
+use Rattle.facts.proofs.Prelude.{ℕ, suc, _+_, _-_, _*_, _/_, _%_, _^_, _≤_, arith, true, false, _&&_, List, [], _∷_, _++_, map, append-assoc, append-nil, _≡_}
+use Rattle.facts.proofs.Prelude.{refl, sym, ap, ap₂, _∙_, eqb, ltb, length, length-map, not-false, eqb-true, eqb-false, le-ltb, All, total, filter, by-cases}
 use lib.ListN as ListN
-use lib.ListN.{length, length-map}
-use borrow.Author.Tests.{not-false, eqb-true, eqb-false, le-ltb}
-use Rattle.facts.specs.Lists.{All, total, filter}
-use Rattle.facts.proofs.Bools.{by-cases}
 use Rattle.words.specs.Word.{kindOf}
 use Rattle.classes.specs.Sizes.{pageBytes}
 use Rattle.classes.specs.Shape.{shapeOf}

@@ -2,13 +2,7 @@
 --     commit-unused    the run that a direct commit answers
 --     growth-unused    the pages that a growth adds
 --     class-unused     the run that a class gets
-use Prim.Native.Nat.{ℕ, _+_, _-_, _/_, _≤_}
-use native.Mathlib.Omega.{arith}
-use mathlib.Core.Bool.{Bool, true, false≢true}
-use mathlib.Core.List.{List}
-use mathlib.Core.Option.{Option, none, some, Option·none-ne-some}
-use mathlib.Core.Path.{_≡_, refl, sym, ap, _∙_, subst}
-use Rattle.facts.proofs.Bools.{by-cases}
+use Rattle.facts.proofs.Prelude.{ℕ, _+_, _-_, _/_, _≤_, arith, Bool, true, false≢true, List, Option, none, some, Option·none-ne-some, _≡_, refl, sym, ap, _∙_, subst, by-cases}
 use Rattle.words.specs.Host.{badHost}
 use Rattle.classes.specs.Sizes.{pageBytes}
 use Rattle.rules.specs.Rules.{rulesOf}

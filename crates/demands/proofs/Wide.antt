@@ -1,16 +1,7 @@
 -- Document 02, A.11, holds of the exported calls.
-use Prim.Native.Nat.{ℕ, _+_, _*_, _/_, _%_, _^_, _≤_, _<_}
-use native.Mathlib.Omega.{arith}
-use native.Mathlib.Nat.{mod-lt, mul-le-mul-right}
-use mathlib.Core.Bool.{Bool, true, false, _&&_, false≢true}
-use mathlib.Core.List.{List, [], _∷_, map}
-use mathlib.Core.Option.{some}
-use mathlib.Core.Path.{_≡_, refl, ap, _∙_}
-use lib.Dec.{eqb, ltb}
+use Rattle.facts.proofs.Prelude.{ℕ, _+_, _*_, _/_, _%_, _^_, _≤_, _<_, arith, mod-lt, mul-le-mul-right, Bool, true, false, _&&_, false≢true, List, [], _∷_, map}
+use Rattle.facts.proofs.Prelude.{some, _≡_, refl, ap, _∙_, eqb, ltb, le-leb, lt-leb, eq-eqb, ne-eqb, eqb-true, every, elem, distinct, count, by-cases, and-no}
 use lib.Pow.{pow-pos}
-use borrow.Author.Tests.{le-leb, lt-leb, eq-eqb, ne-eqb, eqb-true}
-use Rattle.facts.specs.Lists.{every, elem, distinct, count}
-use Rattle.facts.proofs.Bools.{by-cases, and-no}
 use Rattle.words.specs.Host.{hostMax}
 use Rattle.words.specs.Word.{kindBits, granuleOf, countOf, pageOf}
 use Rattle.words.proofs.RoundTrip.{kind-block, granule-block, block-lt, count-chunk, page-chunk}

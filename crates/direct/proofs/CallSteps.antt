@@ -1,18 +1,9 @@
 -- The ways out of the direct calls, and what they ask of the steps.
-use Prim.Native.Nat.{ℕ, zero, suc, _+_, _-_, _*_, _^_, _≤_, _<_}
-use native.Mathlib.Omega.{arith}
-use native.Mathlib.Numerals.{add-one}
-use mathlib.Core.Bool.{Bool, true, false, not, _||_}
-use mathlib.Core.List.{List}
-use mathlib.Core.Option.{Option, none, some}
-use mathlib.Core.Path.{_≡_, refl, sym, ap, _∙_, subst}
-use lib.Dec.{eqb, leb}
-use lib.ListN.{length, set, length-set}
+use Rattle.facts.proofs.Prelude.{ℕ, zero, suc, _+_, _-_, _*_, _^_, _≤_, _<_, arith, add-one, Bool, true, false, not, _||_, List, Option}
+use Rattle.facts.proofs.Prelude.{none, some, _≡_, refl, sym, ap, _∙_, subst, eqb, leb, length, set, length-set, lt-ltb, le-leb, lt-leb}
+use Rattle.facts.proofs.Prelude.{leb-true, leb-false, eq-eqb, ne-eqb, not-true, not-false, isSome, by-cases, and-left, and-right, and-no}
 use mir.Val.{Fits}
 use mir.Syntax.{w32, w64}
-use borrow.Author.Tests.{lt-ltb, le-leb, lt-leb, leb-true, leb-false, eq-eqb, ne-eqb, not-true, not-false}
-use Rattle.facts.specs.Lists.{isSome}
-use Rattle.facts.proofs.Bools.{by-cases, and-left, and-right, and-no}
 use Rattle.words.specs.Limits.{maxPages}
 use Rattle.words.specs.Host.{commitGranted}
 use Rattle.fields.specs.Field.{arena, class, frontier, state, held, emptyLimit, coldLimit, get, put}

@@ -1,16 +1,6 @@
 -- The steps of a report: number 13 on what it reads, the pages of the parked runs, the figures.
-use Prim.Native.Nat.{ℕ, _+_, _-_, _*_, _^_, _≤_, _<_}
-use native.Mathlib.Omega.{arith}
-use native.Mathlib.Nat.{mul-le-mul}
-use native.Mathlib.Numerals.{add-one}
-use mathlib.Core.Bool.{Bool, true, false, not, _&&_}
-use mathlib.Core.List.{List}
-use mathlib.Core.Path.{_≡_, refl, sym, ap, _∙_}
-use lib.Dec.{leb}
-use borrow.Author.Tests.{le-leb, lt-leb, leb-true, not-true, not-false}
-use Rattle.facts.specs.Lists.{every, total, below}
-use Rattle.facts.proofs.Bools.{and-left, and-right}
-use Rattle.facts.proofs.Lists.{below-last, every-at}
+use Rattle.facts.proofs.Prelude.{ℕ, _+_, _-_, _*_, _^_, _≤_, _<_, arith, mul-le-mul, add-one, Bool, true, false, not, _&&_, List, _≡_, refl, sym, ap}
+use Rattle.facts.proofs.Prelude.{_∙_, leb, le-leb, lt-leb, leb-true, not-true, not-false, every, total, below, and-left, and-right, below-last, every-at}
 use Rattle.words.specs.Limits.{maxParked}
 use Rattle.classes.specs.declared.Shape.{Shape}
 use Rattle.classes.specs.Shape.{shapeOf, classCount}

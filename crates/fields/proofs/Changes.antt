@@ -3,14 +3,7 @@
 --     differ         fields that any test tells apart are not the same
 --     Changes t b b′ the book b′ has the length of b, and every field with t false has the value that it has in b
 --     changes-put    a write to a field with t true is such a change: t computes at the field's name, so the condition is `refl` or one equation
-use Prim.Native.Nat.{ℕ}
-use mathlib.Core.Bool.{Bool, true, false, true≢false}
-use mathlib.Core.List.{List, [], _∷_, map}
-use mathlib.Core.Path.{_≡_, refl, sym, ap, _∙_}
-use lib.Dec.{eqb}
-use lib.ListN.{length, getD}
-use borrow.Author.Tests.{eqb-true}
-use Rattle.facts.proofs.Bools.{and-left, and-right}
+use Rattle.facts.proofs.Prelude.{ℕ, Bool, true, false, true≢false, List, [], _∷_, map, _≡_, refl, sym, ap, _∙_, eqb, length, getD, eqb-true, and-left, and-right}
 use Rattle.fields.specs.Field.{Field, arena, mark, class, hole, page, out, slot, size, state, frontier, holes, holePages, commits, commitsHigh, reuses, reusesHigh, abandoned, abandonedHigh, held, partial, empty, emptyCount, cold, coldCount, emptyLimit, coldLimit, start, pages, owner, first, next, prev, free, carved, listed, virgin, tally, region, off, block, row, get, put, same, ok}
 use Rattle.fields.proofs.Laws.{get-put-other, length-put}
 

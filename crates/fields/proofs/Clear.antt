@@ -2,18 +2,10 @@
 --     length-row, changes-row, get-row    one value written to field after field: the length, what may have changed, what is read
 --     cleared                             32 out bits that are one word
 --     marks-past-out                      a loop may clear both in turn
-use Prim.Native.Nat.{ℕ, zero, suc, _+_, _-_, _*_, _^_, _≤_, _<_}
-use native.Mathlib.Omega.{arith}
-use native.Mathlib.Nat.{add-zero, zero-add, suc-add, mod-eq-of-lt, div-one}
-use native.Mathlib.Numerals.{add-one}
+use Rattle.facts.proofs.Prelude.{ℕ, zero, suc, _+_, _-_, _*_, _^_, _≤_, _<_, arith, add-zero, zero-add, suc-add, mod-eq-of-lt, div-one}
+use Rattle.facts.proofs.Prelude.{add-one, Bool, true, false, List, _≡_, refl, sym, ap, _∙_, leb, ltb, length, getD, set, lt-ltb, ne-eqb}
 use native.Mathlib.Decide.{ℕ-discrete}
-use mathlib.Core.Bool.{Bool, true, false}
-use mathlib.Core.List.{List}
-use mathlib.Core.Path.{_≡_, refl, sym, ap, _∙_}
-use lib.Dec.{leb, ltb}
-use lib.ListN.{length, getD, set}
 use lib.Pow.{pow-pos}
-use borrow.Author.Tests.{lt-ltb, ne-eqb}
 use Rattle.fields.specs.Field.{Field, bits, place, mark, out, words, put, get, ok, same, inBook, room}
 use Rattle.fields.specs.Clear.{clearOut, clearMarks}
 use Rattle.fields.specs.way.OutBits.{outWord, outsAt}

@@ -5,18 +5,11 @@
 --     length-put                     a write keeps the length
 --     get-room                       what is read is a value that the field can hold
 -- All arithmetic of the layout is in `separate` and, for the fields of pages, in the laws on `Lies` before it.
-use Prim.Native.Nat.{ℕ, _+_, _*_, _/_, _≤_, _<_}
-use native.Mathlib.Omega.{arith}
+use Rattle.facts.proofs.Prelude.{ℕ, _+_, _*_, _/_, _≤_, _<_, arith, true, false, _&&_, List, _⊎_, inl, inr, _≢_, ⊎-elim, _≡_, refl, sym}
+use Rattle.facts.proofs.Prelude.{ap, _∙_, eqb, ltb, leb, length, getD, set, length-set, getD-set-same, getD-set-other, set-getD, set-set}
+use Rattle.facts.proofs.Prelude.{set-comm, set-out, leb-true, ltb-true, ltb-false, eqb-false, lt-ltb, by-cases, and-left, and-right}
+use Rattle.facts.proofs.Bools.{and-false}
 use native.Mathlib.Decide.{ℕ-discrete, decLe}
-use mathlib.Core.Bool.{true, false, _&&_}
-use mathlib.Core.List.{List}
-use mathlib.Core.Logic.{_⊎_, inl, inr, _≢_, ⊎-elim}
-use mathlib.Core.Path.{_≡_, refl, sym, ap, _∙_}
-use lib.Dec.{eqb, ltb, leb}
-use lib.ListN.{length, getD, set, length-set}
-use lib.Seq.{getD-set-same, getD-set-other, set-getD, set-set, set-comm, set-out}
-use borrow.Author.Tests.{leb-true, ltb-true, ltb-false, eqb-false, lt-ltb}
-use Rattle.facts.proofs.Bools.{by-cases, and-left, and-right, and-false}
 use Rattle.fields.specs.Field.{Field, arena, mark, class, hole, page, out, slot, ArenaField, ClassField, HoleField, PageField, arenaOff, classOff, holeOff, pageOff, pair, word, Part, bits, part, read, place, get, put, same, ok, inBook, words, room}
 use Rattle.fields.proofs.Parts.{Split, below, above, holdable, read-place, read-small, place-read, place-place, read-place-other, place-comm}
 

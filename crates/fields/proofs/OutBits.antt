@@ -3,15 +3,10 @@
 --     stretch     out bits of blocks that follow one another, in one word: all 0, or all 1 (bitsSet)
 --     struck      an out bit that is set, cleared
 --     paired      the two entries of a word
-use Prim.Native.Nat.{ℕ, zero, suc, _+_, _-_, _*_, _/_, _%_, _^_, _≤_, _<_}
-use native.Mathlib.Omega.{arith}
-use native.Mathlib.Nat.{le-refl, one-mul, mod-one, mod-eq-of-lt, div-one}
-use mathlib.Core.List.{List}
-use mathlib.Core.Path.{_≡_, refl, sym, ap, _∙_}
+use Rattle.facts.proofs.Prelude.{ℕ, zero, suc, _+_, _-_, _*_, _/_, _%_, _^_, _≤_, _<_, arith, le-refl, one-mul, mod-one, mod-eq-of-lt}
+use Rattle.facts.proofs.Prelude.{div-one, List, _≡_, refl, sym, ap, _∙_, length, getD, set, getD-set-same, set-getD, set-set}
 use lib.Bits.{bitAnd, bitOr, or-add-and, and-high}
-use lib.ListN.{length, getD, set}
 use lib.Pow.{pow-pos, pow-add, pow-mono, ones-lt, high-ones, shl-exact, recompose}
-use lib.Seq.{getD-set-same, set-getD, set-set}
 use Rattle.fields.specs.Field.{bits, place, out, slot, put}
 use Rattle.fields.specs.way.OutBits.{setOutRun, outWord, outsAt}
 use Rattle.fields.proofs.Parts.{below, read-le, read-place-other, place-next}

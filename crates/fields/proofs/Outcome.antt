@@ -1,11 +1,5 @@
 -- The laws of `putAt`: those of `put`, at a stored number.
-use Prim.Native.Nat.{ℕ, zero, suc, _-_}
-use native.Mathlib.Numerals.{sub-one}
-use mathlib.Core.Bool.{Bool, true, false}
-use mathlib.Core.List.{List}
-use mathlib.Core.Path.{_≡_, refl}
-use lib.Dec.{leb, ltb, eqb·suc-suc}
-use lib.ListN.{length}
+use Rattle.facts.proofs.Prelude.{ℕ, zero, suc, _-_, sub-one, Bool, true, false, List, _≡_, refl, leb, ltb, eqb·suc-suc, length}
 use Rattle.fields.specs.Field.{PageField, Field, page, words, get, put, ok, same}
 use Rattle.fields.specs.Outcome.{putAt, sameAt}
 use Rattle.fields.proofs.Laws.{get-put-same, get-put-other, length-put}

@@ -1,8 +1,5 @@
 -- Parts of a word: what is read after a write to the same part and to another, and two writes.
-use Prim.Native.Nat.{ℕ, _+_, _-_, _*_, _/_, _%_, _^_, _≤_, _<_}
-use native.Mathlib.Omega.{arith}
-use native.Mathlib.Nat.{le-refl, mod-lt, mod-mod, mod-eq-of-lt, zero-mod}
-use mathlib.Core.Path.{_≡_, refl, sym, ap, _∙_}
+use Rattle.facts.proofs.Prelude.{ℕ, _+_, _-_, _*_, _/_, _%_, _^_, _≤_, _<_, arith, le-refl, mod-lt, mod-mod, mod-eq-of-lt, zero-mod, _≡_, refl, sym, ap, _∙_}
 use lib.Pow.{pow-pos, pow-add, mod-pow-add, split, high, low, shr-shr, field, mod-mod-pow}
 use Rattle.fields.specs.Field.{Part, whole, bits, read, place}
 

@@ -1,8 +1,5 @@
 -- Shifts of a 32-bit word that lose nothing, and what placing bits by them comes to.
-use Prim.Native.Nat.{ℕ, _+_, _-_, _*_, _/_, _%_, _^_, _≤_, _<_}
-use native.Mathlib.Omega.{arith}
-use native.Mathlib.Nat.{mod-lt, one-mul, div-lt-iff-lt-mul}
-use mathlib.Core.Path.{_≡_, sym, _∙_, subst}
+use Rattle.facts.proofs.Prelude.{ℕ, _+_, _-_, _*_, _/_, _%_, _^_, _≤_, _<_, arith, mod-lt, one-mul, div-lt-iff-lt-mul, _≡_, sym, _∙_, subst}
 use lib.Pow.{pow-pos, pow-add, shl-exact, shr-lt, shr-shr}
 use Rattle.fields.specs.Field.{bits, read, place}
 use Rattle.fields.proofs.Parts.{read-le, read-small, place-high}

@@ -1,12 +1,5 @@
 -- Numbers 1 and 2: each way out of the functions that answer them, and what their absence tells.
-use Prim.Native.Nat.{ℕ, _+_, _*_, _≤_, _<_}
-use native.Mathlib.Omega.{arith}
-use mathlib.Core.Bool.{Bool, true, false, cond}
-use mathlib.Core.List.{List, [], _∷_}
-use mathlib.Core.Path.{_≡_, refl}
-use lib.Dec.{leb}
-use lib.ListN.{length}
-use borrow.Author.Tests.{le-leb, lt-leb}
+use Rattle.facts.proofs.Prelude.{ℕ, _+_, _*_, _≤_, _<_, arith, Bool, true, false, cond, List, [], _∷_, _≡_, refl, leb, length, le-leb, lt-leb}
 use Rattle.fields.specs.Field.{arena, size, get, words}
 use Rattle.fields.specs.Ranges.{within, between, maxPages, lengthFault, metaFault, Sound}
 

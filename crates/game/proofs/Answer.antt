@@ -1,13 +1,7 @@
 -- What the game's call answers and leaves, by its test, and the bounds of numbers that are not refused. s is what the function that
 -- tests them answered.
-use Prim.Native.Nat.{ℕ, _≤_}
-use mathlib.Core.Path.{_≡_, refl, sym, _∙_}
-use mathlib.Core.Bool.{Bool, true, false, _||_}
-use native.Mathlib.Omega.{arith}
-use lib.Dec.{eqb, ltb}
+use Rattle.facts.proofs.Prelude.{ℕ, _≤_, arith, Bool, true, false, _||_, _≡_, refl, sym, _∙_, eqb, ltb, ltb-false, nor-left, nor-right}
 use mir.Val.{boolByte}
-use borrow.Author.Tests.{ltb-false}
-use Rattle.facts.proofs.Bools.{nor-left, nor-right}
 use Rattle.game.specs.Game.{gamePages, gameMoves, empty, wins, badGame, askerWins, GameEnds}
 
 record Bounds (n limit k : ℕ) : Type 0 where

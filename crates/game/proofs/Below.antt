@@ -1,12 +1,5 @@
 -- Laws of `someBelow` and `everyBelow`: one number more, as the loops go, and what they mean.
-use Prim.Native.Nat.{ℕ, zero, suc, _+_, _<_}
-use mathlib.Core.Path.{_≡_, refl}
-use mathlib.Core.Bool.{Bool, true, false, false≢true}
-use mathlib.Core.Logic.{_⊎_, ⊎-elim}
-use native.Mathlib.Nat.{eq-or-lt-of-le}
-use native.Mathlib.Numerals.{add-one}
-use native.Mathlib.Omega.{arith}
-use Rattle.facts.proofs.Bools.{by-cases, or-left, or-right, and-no}
+use Rattle.facts.proofs.Prelude.{ℕ, zero, suc, _+_, _<_, arith, eq-or-lt-of-le, add-one, Bool, true, false, false≢true, _⊎_, ⊎-elim, _≡_, refl, by-cases, or-left, or-right, and-no}
 use Rattle.game.specs.Game.{someBelow, everyBelow}
 
 last-or-below : (m n : ℕ) → m < suc n → (m ≡ n) ⊎ (m < n)

@@ -1,16 +1,8 @@
 -- What the game's computed answer means: the asker wins within k moves just where a strategy forces it (`game-is`).
-use Prim.Native.Nat.{ℕ, zero, suc, _+_, _-_, _≤_, _<_}
-use mathlib.Core.Path.{_≡_, refl, sym, _∙_}
-use mathlib.Core.Bool.{Bool, true, not, _||_, false≢true}
-use mathlib.Core.Logic.{_↔_}
-use native.Mathlib.Nat.{pos-of-ne-zero}
-use native.Mathlib.Omega.{arith}
-use lib.Dec.{leb, eqb}
-use borrow.Author.Tests.{ltb-true, lt-ltb, leb-true, le-leb, eqb-false, ne-eqb, not-true}
+use Rattle.facts.proofs.Prelude.{ℕ, zero, suc, _+_, _-_, _≤_, _<_, arith, pos-of-ne-zero, Bool, true, not, _||_, false≢true, _↔_, _≡_, refl, sym, _∙_, leb, eqb}
+use Rattle.facts.proofs.Prelude.{ltb-true, lt-ltb, leb-true, le-leb, eqb-false, ne-eqb, not-true, by-cases, and-left, and-right, or-right, every-at, every-of}
 use Rattle.game.specs.Game.{State, empty, live, lengthAt, liveBelow, place, release, someBelow, everyBelow, reaches, isFree, mayStand, placing, everyPlacing, asking, someAsk, releasing, someRelease, wins}
 use Rattle.game.specs.Forces.{Free, Place, Ask, Forces, unplaced, asked, released}
-use Rattle.facts.proofs.Bools.{by-cases, and-left, and-right, or-right}
-use Rattle.facts.proofs.Lists.{every-at, every-of}
 use Rattle.game.proofs.Below.{some-found, some-is}
 
 free-of : (s : State) (x : ℕ) → isFree s x ≡ true → Free s x

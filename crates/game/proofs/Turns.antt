@@ -1,12 +1,6 @@
 -- The turns of the game as the loops go through them.
-use Prim.Native.Nat.{ℕ, zero, suc, _+_, _-_, _≤_, _<_}
-use mathlib.Core.Path.{_≡_, refl, ap, _∙_}
-use mathlib.Core.Bool.{Bool, true, false, not, _||_}
-use native.Mathlib.Omega.{arith}
-use lib.Dec.{eqb}
-use borrow.Author.Tests.{eq-eqb, ne-eqb}
+use Rattle.facts.proofs.Prelude.{ℕ, zero, suc, _+_, _-_, _≤_, _<_, arith, Bool, true, false, not, _||_, _≡_, refl, ap, _∙_, eqb, eq-eqb, ne-eqb, or-right, and-no}
 use Rattle.game.specs.Game.{State, lengthAt, live, place, release, someBelow, everyBelow, mayStand, placing, everyPlacing, asking, someAsk, releasing, someRelease, wins}
-use Rattle.facts.proofs.Bools.{or-right, and-no}
 use Rattle.game.proofs.Below.{some-more, some-found, every-more, every-fails}
 
 module _ (n p : ℕ) (w : State → Bool) (s : State) where

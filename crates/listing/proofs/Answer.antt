@@ -1,16 +1,7 @@
 -- What the listing's call answers and leaves, by its tests, and the bounds of numbers that are not refused. s is what the function that
 -- tests them answered.
-use Prim.Native.Nat.{ℕ, _+_, _≤_, _<_}
-use mathlib.Core.Bool.{Bool, true, false, _||_}
-use mathlib.Core.List.{List, _++_}
-use mathlib.Core.Path.{_≡_, refl, sym, ap, _∙_}
-use native.Mathlib.Nat.{pos-of-ne-zero, zero-add}
-use native.Mathlib.Omega.{arith}
-use lib.Dec.{eqb, ltb}
-use lib.ListN.{length, drop}
-use lib.Seq.{sets, sets-eq}
-use borrow.Author.Tests.{ltb-false, eqb-false, lt-ltb, le-ltb}
-use Rattle.facts.proofs.Bools.{nor-left, nor-right}
+use Rattle.facts.proofs.Prelude.{ℕ, _+_, _≤_, _<_, arith, pos-of-ne-zero, zero-add, Bool, true, false, _||_, List, _++_, _≡_, refl, sym}
+use Rattle.facts.proofs.Prelude.{ap, _∙_, eqb, ltb, length, drop, sets, sets-eq, ltb-false, eqb-false, lt-ltb, le-ltb, nor-left, nor-right}
 use Rattle.listing.specs.declared.node.Node.{Node}
 use Rattle.listing.specs.Node.{mostPages, mostCalls, start}
 use Rattle.listing.specs.Listing.{mostNumbers, listFrom, listing, badBounds, Wrote, shortHistories, ListingEnds}

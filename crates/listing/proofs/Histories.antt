@@ -1,11 +1,7 @@
 -- The histories of each length, computed over the model's arena, are just those of specs/History; on any arena, whatever its rules.
-use Prim.Native.Nat.{ℕ, zero, suc, _+_, _≤_, _<_}
-use mathlib.Core.List.{List, [], _∷_, _++_, map, List·Memᴰ, List·Memᴰ·head, List·Memᴰ·not-nil, List·Memᴰ·append-cases, List·Memᴰ·eq-of-singleton, Memᴰ·append-left, Memᴰ·append-right, Memᴰ·map, Memᴰ·of-map}
-use mathlib.Core.Logic.{_⊎_, ⊎-elim}
-use mathlib.Core.Option.{Option, none, some}
-use mathlib.Core.Path.{_≡_, refl, sym, ap, subst}
-use native.Mathlib.Omega.{arith}
-use lib.ListN.{length}
+use Rattle.facts.proofs.Prelude.{ℕ, zero, suc, _+_, _≤_, _<_, arith, List, [], _∷_, _++_, map, List·Memᴰ, List·Memᴰ·head}
+use Rattle.facts.proofs.Prelude.{List·Memᴰ·not-nil, List·Memᴰ·append-cases, List·Memᴰ·eq-of-singleton, Memᴰ·append-left, Memᴰ·append-right}
+use Rattle.facts.proofs.Prelude.{Memᴰ·map, Memᴰ·of-map, _⊎_, ⊎-elim, Option, none, some, _≡_, refl, sym, ap, subst, length}
 use Rattle.listing.specs.History.{Call, commit, release, Run, State, committed, released, History, over, commits, releases}
 use Rattle.listing.specs.Listing.{gather}
 use Rattle.listing.proofs.Gather.{gather-in, gather-of, Found}

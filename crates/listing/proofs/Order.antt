@@ -1,10 +1,6 @@
 -- The computed histories stand in the order, on any arena.
-use Prim.Native.Nat.{ℕ, zero, suc, _<_}
-use mathlib.Core.List.{List, [], _∷_, _++_, List·Memᴰ, List·Memᴰ·head, List·Memᴰ·tail, List·Memᴰ·not-nil, List·Memᴰ·append-cases, Memᴰ·of-map}
-use mathlib.Core.Logic.{_⊎_, ⊎-elim}
-use mathlib.Core.Option.{Option, none, some}
-use mathlib.Core.Path.{_≡_, refl, subst}
-use native.Mathlib.Omega.{arith}
+use Rattle.facts.proofs.Prelude.{ℕ, zero, suc, _<_, arith, List, [], _∷_, _++_, List·Memᴰ, List·Memᴰ·head, List·Memᴰ·tail}
+use Rattle.facts.proofs.Prelude.{List·Memᴰ·not-nil, List·Memᴰ·append-cases, Memᴰ·of-map, _⊎_, ⊎-elim, Option, none, some, _≡_, refl, subst}
 use Rattle.listing.specs.History.{Call, commit, release, Run, State, committed, released, First, kinds, pages, runs, Before, here, there, Ordered}
 use Rattle.listing.specs.Listing.{gather}
 use Rattle.listing.proofs.Gather.{gather-of}

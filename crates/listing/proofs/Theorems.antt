@@ -1,13 +1,6 @@
 -- What the listing writes is just the histories of the length, each once, in the order (`listing-is`). That the code's own state follows
 -- the model's arena is computed, for each arena and length: nothing else here goes by the arena's rules.
-use Prim.Native.Nat.{ℕ, zero, suc, _≤_}
-use mathlib.Core.Bool.{true}
-use mathlib.Core.List.{List, [], _∷_, List·Memᴰ}
-use mathlib.Core.Path.{_≡_, refl, subst}
-use native.Mathlib.Omega.{arith}
-use lib.Dec.{leb}
-use lib.ListN.{length}
-use borrow.Author.Tests.{leb-true}
+use Rattle.facts.proofs.Prelude.{ℕ, zero, suc, _≤_, arith, true, List, [], _∷_, List·Memᴰ, _≡_, refl, subst, leb, length, leb-true}
 use Rattle.model.specs.HoleStore.{leastFit, cutFrom, lowestThat, place, insert, accepts}
 use Rattle.model.specs.Arena.{give, drawFrom, draw, grant, commitReady, commitAs, commit}
 use Rattle.listing.specs.History.{opened, committed, released, written, Lists}

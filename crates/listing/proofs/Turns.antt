@@ -1,10 +1,5 @@
 -- One turn of the listing, as its loop goes through the numbers.
-use Prim.Native.Nat.{ℕ, zero, suc, _+_, _-_, _≤_, _<_}
-use mathlib.Core.Bool.{true, false}
-use mathlib.Core.List.{List}
-use mathlib.Core.Path.{_≡_, refl, ap}
-use native.Mathlib.Omega.{arith}
-use lib.ListN.{length}
+use Rattle.facts.proofs.Prelude.{ℕ, zero, suc, _+_, _-_, _≤_, _<_, arith, true, false, List, _≡_, refl, ap, length}
 use Rattle.listing.specs.declared.node.Node.{Node}
 use Rattle.listing.specs.Node.{mostPages, mostCalls, mayCall, afterCall}
 use Rattle.listing.specs.Listing.{mostNumbers, gather, soFar, goesOn, listFrom, Wrote}

@@ -1,16 +1,6 @@
 -- New blocks given: their words, and their out bits word by word.
-use Prim.Native.Nat.{ℕ, zero, suc, _+_, _-_, _*_, _/_, _%_, _≤_, _<_, min}
-use native.Mathlib.Omega.{arith}
-use native.Mathlib.Nat.{add-zero}
-use native.Mathlib.Numerals.{add-one}
-use mathlib.Core.List.{List, [], _∷_, _++_, map, reverse, reverse-append}
-use mathlib.Core.Bool.{true}
-use mathlib.Core.Path.{_≡_, refl, sym, ap, _∙_}
-use lib.Dec.{eqb}
-use lib.ListN.{length, set, length-set, length-map, length-reverse}
-use borrow.Author.Tests.{lt-ltb, eqb-true}
-use Rattle.facts.specs.Lists.{every}
-use Rattle.facts.proofs.Bools.{by-cases, and-left, and-right}
+use Rattle.facts.proofs.Prelude.{ℕ, zero, suc, _+_, _-_, _*_, _/_, _%_, _≤_, _<_, min, arith, add-zero, add-one, true, List, [], _∷_, _++_, map, reverse, reverse-append}
+use Rattle.facts.proofs.Prelude.{_≡_, refl, sym, ap, _∙_, eqb, length, set, length-set, length-map, length-reverse, lt-ltb, eqb-true, every, by-cases, and-left, and-right}
 use Rattle.classes.specs.declared.Shape.{Shape}
 use Rattle.fields.specs.Field.{out, put}
 use Rattle.fields.specs.way.OutBits.{setOutRun}

@@ -1,13 +1,6 @@
 -- A block's word and index: sums that stay within 32 bits, as the longest arena's granules do, and the ways out.
-use Prim.Native.Nat.{ℕ, _+_, _-_, _*_, _/_, _%_, _^_, _≤_, _<_}
-use native.Mathlib.Omega.{arith}
-use native.Mathlib.Nat.{mul-le-mul-right, mod-eq-of-lt}
-use mathlib.Core.Bool.{true}
-use mathlib.Core.List.{List}
-use mathlib.Core.Path.{_≡_, ap, _∙_}
-use lib.Dec.{eqb, ltb, leb}
-use borrow.Author.Tests.{eq-eqb, ne-eqb, eqb-true, leb-true, ltb-true}
-use Rattle.facts.proofs.Bools.{and-left, and-right}
+use Rattle.facts.proofs.Prelude.{ℕ, _+_, _-_, _*_, _/_, _%_, _^_, _≤_, _<_, arith, mul-le-mul-right, mod-eq-of-lt, true, List}
+use Rattle.facts.proofs.Prelude.{_≡_, ap, _∙_, eqb, ltb, leb, eq-eqb, ne-eqb, eqb-true, leb-true, ltb-true, and-left, and-right}
 use Rattle.words.specs.Word.{blockWord, packBlock, granuleOf}
 use Rattle.classes.specs.declared.Shape.{Shape}
 use Rattle.fields.specs.Field.{page, free, carved, get}

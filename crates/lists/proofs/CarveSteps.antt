@@ -1,13 +1,6 @@
 -- The ways out of the functions that carve, and what their loops keep.
-use Prim.Native.Nat.{ℕ, _+_, _-_, _*_, _/_, _≤_, _<_}
-use native.Mathlib.Omega.{arith}
-use native.Mathlib.Numerals.{add-one}
-use mathlib.Core.Bool.{Bool, true}
-use mathlib.Core.List.{List}
-use mathlib.Core.Path.{_≡_, refl, ap, _∙_}
-use lib.ListN.{length}
+use Rattle.facts.proofs.Prelude.{ℕ, _+_, _-_, _*_, _/_, _≤_, _<_, arith, add-one, Bool, true, List, _≡_, refl, ap, _∙_, length, eq-eqb, ne-eqb}
 use mir.Val.{boolByte}
-use borrow.Author.Tests.{eq-eqb, ne-eqb}
 use Rattle.classes.specs.declared.Shape.{Shape}
 use Rattle.fields.specs.Field.{page, mark, slot, free, carved, virgin, listed, put}
 use Rattle.fields.specs.Clear.{clearOut, clearMarks}

@@ -1,10 +1,6 @@
 -- Blocks given, and more; free ones and new ones together.
-use Prim.Native.Nat.{ℕ, _+_, _-_, _≤_, min}
-use native.Mathlib.Omega.{arith}
-use mathlib.Core.List.{List, [], _∷_, _++_, map, map-append, reverse}
-use mathlib.Core.Path.{_≡_, refl, sym, ap, _∙_}
-use lib.Dec.{ltb}
-use lib.ListN.{length, set, length-map, length-append, length-reverse}
+use Rattle.facts.proofs.Prelude.{ℕ, _+_, _-_, _≤_, min, arith, List, [], _∷_, _++_, map, map-append, reverse, _≡_}
+use Rattle.facts.proofs.Prelude.{refl, sym, ap, _∙_, ltb, length, set, length-map, length-append, length-reverse}
 use Rattle.classes.specs.declared.Shape.{Shape}
 use Rattle.fields.specs.Field.{page, out, free, carved, get, put}
 use Rattle.model.specs.Page.{wordOf}

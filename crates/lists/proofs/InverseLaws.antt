@@ -1,10 +1,8 @@
 -- A product with the inverse divides: x is below 2 ^ 16, and d at most 2 ^ 15.
 --     by-inverse      the quotient stands above the point
 --     behind-point, past-point          what stands behind it is below the inverse exactly if there is no remainder
-use Prim.Native.Nat.{ℕ, suc, _+_, _-_, _*_, _/_, _%_, _^_, _≤_, _<_}
-use native.Mathlib.Omega.{arith}
-use native.Mathlib.Nat.{div-add-mod', div-le-self, mod-lt, mul-le-mul, mul-le-mul-right, lt-of-mul-lt-mul-right}
-use mathlib.Core.Path.{_≡_, sym, ap, _∙_}
+use Rattle.facts.proofs.Prelude.{ℕ, suc, _+_, _-_, _*_, _/_, _%_, _^_, _≤_, _<_, arith, div-add-mod', div-le-self}
+use Rattle.facts.proofs.Prelude.{mod-lt, mul-le-mul, mul-le-mul-right, lt-of-mul-lt-mul-right, _≡_, sym, ap, _∙_}
 use mir.Val.{Fits}
 use mir.Syntax.{w32, w64}
 use lib.Pow.{high, low}

@@ -1,12 +1,5 @@
 -- The ways out of the functions on a class's lists.
-use Prim.Native.Nat.{ℕ, zero, suc, _+_, _-_}
-use native.Mathlib.Numerals.{sub-one}
-use mathlib.Core.Bool.{true}
-use mathlib.Core.List.{List}
-use mathlib.Core.Path.{_≡_, refl}
-use lib.Dec.{ltb}
-use lib.ListN.{length}
-use borrow.Author.Tests.{lt-ltb}
+use Rattle.facts.proofs.Prelude.{ℕ, zero, suc, _+_, _-_, sub-one, true, List, _≡_, refl, ltb, length, lt-ltb}
 use Rattle.fields.specs.Field.{ClassField, class, page, partial, next, prev, listed, get, put}
 use Rattle.fields.specs.Outcome.{putAt}
 use Rattle.fields.proofs.Laws.{get-put-other, length-put}

@@ -1,15 +1,6 @@
 -- Blocks given from the stack: some of them and then others, two a turn.
-use Prim.Native.Nat.{ℕ, zero, suc, _+_, _-_, _*_, _/_, _%_, _≤_, _<_}
-use native.Mathlib.Omega.{arith}
-use native.Mathlib.Nat.{zero-add, suc-add}
-use mathlib.Core.Bool.{Bool, true}
-use mathlib.Core.List.{List, [], _∷_, _++_, reverse, reverse-append}
-use mathlib.Core.Path.{_≡_, refl, sym, ap, _∙_}
-use lib.Dec.{ltb}
-use lib.ListN.{length, length-reverse}
-use borrow.Author.Tests.{lt-ltb, ltb-true}
-use Rattle.facts.specs.Lists.{every}
-use Rattle.facts.proofs.Bools.{and-right}
+use Rattle.facts.proofs.Prelude.{ℕ, zero, suc, _+_, _-_, _*_, _/_, _%_, _≤_, _<_, arith, zero-add, suc-add, Bool, true, List, [], _∷_, _++_}
+use Rattle.facts.proofs.Prelude.{reverse, reverse-append, _≡_, refl, sym, ap, _∙_, ltb, length, length-reverse, lt-ltb, ltb-true, every, and-right}
 use Rattle.classes.specs.declared.Shape.{Shape}
 use Rattle.fields.specs.Field.{slot, get}
 use Rattle.pages.specs.Stack.{topEntries, descending, HandedOut}

@@ -1,16 +1,6 @@
 -- Blocks pushed back one after another, from the list's last on, and two at a time.
-use Prim.Native.Nat.{ℕ, suc, _+_, _-_, _*_, _/_, _%_, _≤_, _<_}
-use native.Mathlib.Omega.{arith}
-use native.Mathlib.Nat.{add-zero}
-use mathlib.Core.Bool.{true}
-use mathlib.Core.List.{List, [], _∷_, _++_, map, map-append}
-use mathlib.Core.Path.{_≡_, refl, sym, ap, _∙_}
-use lib.ListN.{length, getD, take, drop, length-map, length-drop, length-append}
-use lib.Seq.{drop-cons, drop-length, length-take-le, take-length, take-suc, getD-take}
-use lib.Dec.{ltb}
-use mathlib.Core.Bool.{true}
-use Rattle.facts.specs.Lists.{every}
-use Rattle.facts.proofs.Lists.{every-get}
+use Rattle.facts.proofs.Prelude.{ℕ, suc, _+_, _-_, _*_, _/_, _%_, _≤_, _<_, arith, add-zero, true, List, [], _∷_, _++_, map, map-append, _≡_, refl, sym, ap, _∙_, ltb, length, getD}
+use Rattle.facts.proofs.Prelude.{take, drop, length-map, length-drop, length-append, drop-cons, drop-length, length-take-le, take-length, take-suc, getD-take, every, every-get}
 use Rattle.classes.specs.declared.Shape.{Shape}
 use Rattle.classes.specs.way.Sound.{Sound}
 use Rattle.fields.specs.Ranges.{maxPages}

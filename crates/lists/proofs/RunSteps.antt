@@ -1,14 +1,6 @@
 -- The ways out of the functions on runs, and what their loops keep.
-use Prim.Native.Nat.{ℕ, zero, suc, _+_, _-_, _≤_, _<_}
-use native.Mathlib.Omega.{arith}
-use native.Mathlib.Numerals.{add-one, sub-one}
-use mathlib.Core.Bool.{Bool, true, false, not, _&&_, and-false}
-use mathlib.Core.List.{List}
-use mathlib.Core.Path.{_≡_, refl, sym, ap, _∙_}
-use lib.Dec.{eqb}
-use lib.ListN.{length}
-use borrow.Author.Tests.{eq-eqb, ne-eqb, le-leb, lt-leb, not-true, not-false}
-use Rattle.facts.specs.Lists.{every, below}
+use Rattle.facts.proofs.Prelude.{ℕ, zero, suc, _+_, _-_, _≤_, _<_, arith, add-one, sub-one, Bool, true, false, not, _&&_, and-false, List}
+use Rattle.facts.proofs.Prelude.{_≡_, refl, sym, ap, _∙_, eqb, length, eq-eqb, ne-eqb, le-leb, lt-leb, not-true, not-false, every, below}
 use Rattle.classes.specs.declared.Shape.{Shape}
 use Rattle.fields.specs.Field.{arena, page, frontier, owner, first, get, put}
 use Rattle.fields.proofs.Laws.{length-put}

@@ -1,12 +1,5 @@
 -- Blocks on the stack that follow one another: the tests, and what they give.
-use Prim.Native.Nat.{ℕ, suc, _+_, _-_, _*_, _≤_, _<_}
-use native.Mathlib.Omega.{arith}
-use mathlib.Core.Bool.{Bool, true, _&&_}
-use mathlib.Core.List.{List, _∷_, reverse}
-use mathlib.Core.Path.{_≡_, sym, ap, ap₂, _∙_}
-use lib.Dec.{eqb}
-use borrow.Author.Tests.{eqb-true}
-use Rattle.facts.proofs.Bools.{and-left, and-right}
+use Rattle.facts.proofs.Prelude.{ℕ, suc, _+_, _-_, _*_, _≤_, _<_, arith, Bool, true, _&&_, List, _∷_, reverse, _≡_, sym, ap, ap₂, _∙_, eqb, eqb-true, and-left, and-right}
 use Rattle.fields.specs.Field.{slot, get}
 use Rattle.pages.specs.Stack.{topEntries, descending}
 use Rattle.pages.proofs.TopEntries.{popped-more}

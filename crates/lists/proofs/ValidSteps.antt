@@ -1,11 +1,5 @@
 -- The ways out of number 13's tests of a page's words and of a store.
-use Prim.Native.Nat.{ℕ, _+_, _-_, _≤_, _<_}
-use native.Mathlib.Omega.{arith}
-use mathlib.Core.Bool.{true, false, and-false}
-use mathlib.Core.List.{List}
-use mathlib.Core.Path.{_≡_}
-use lib.Dec.{leb}
-use borrow.Author.Tests.{le-leb, lt-leb, eq-eqb, ne-eqb}
+use Rattle.facts.proofs.Prelude.{ℕ, _+_, _-_, _≤_, _<_, arith, true, false, and-false, List, _≡_, leb, le-leb, lt-leb, eq-eqb, ne-eqb}
 use Rattle.classes.specs.declared.Shape.{Shape}
 use Rattle.fields.specs.Field.{arena, class, page, frontier, next, prev, free, carved, listed, virgin, get}
 use Rattle.pages.specs.declared.Park.{Park}

@@ -1,11 +1,5 @@
 -- One page at one call: where it was, what the arena and the class did with it, and where it is.
-use Prim.Native.Nat.{ℕ, _+_, _≤_}
-use mathlib.Core.Path.{_≡_, refl, sym, _∙_}
-use mathlib.Core.Bool.{Bool, true, false, cond, false≢true}
-use native.Mathlib.Omega.{arith}
-use lib.Dec.{eqb}
-use borrow.Author.Tests.{eqb-true, eqb-false, eq-eqb, ne-eqb}
-use Rattle.facts.proofs.Bools.{by-cases}
+use Rattle.facts.proofs.Prelude.{ℕ, _+_, _≤_, arith, Bool, true, false, cond, false≢true, _≡_, refl, sym, _∙_, eqb, eqb-true, eqb-false, eq-eqb, ne-eqb, by-cases}
 use Rattle.model.specs.Heap.{Holder, nobody, direct, class, isDirect, isHeld}
 use Rattle.model.specs.Ledger.{heldBy}
 

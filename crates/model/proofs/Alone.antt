@@ -1,13 +1,7 @@
 -- Demand 3, first half: a class's answers and the runs that it was given determine each other.
 -- A class by itself is its calls and what it is given (`replay`); a history shows each class nothing else.
-use Prim.Native.Nat.{ℕ}
-use mathlib.Core.Path.{_≡_, refl, sym, ap, _∙_, subst, ap₂}
-use mathlib.Core.List.{List, [], _∷_, map, head-eq-of-cons-eq, tail-eq-of-cons-eq}
-use mathlib.Core.Option.{Option, none, some}
-use mathlib.Core.Bool.{Bool, true, false, cond, false≢true}
-use mathlib.Core.Logic.{_↔_}
-use borrow.Author.Tests.{eqb-true}
-use Rattle.facts.proofs.Bools.{by-cases}
+use Rattle.facts.proofs.Prelude.{ℕ, Bool, true, false, cond, false≢true, List, [], _∷_, map, head-eq-of-cons-eq, tail-eq-of-cons-eq}
+use Rattle.facts.proofs.Prelude.{_↔_, Option, none, some, _≡_, refl, sym, ap, _∙_, subst, ap₂, eqb-true, by-cases}
 use Rattle.classes.specs.declared.Shape.{Shape}
 use Rattle.classes.specs.Shape.{shapeOf}
 use Rattle.classes.specs.way.Sound.{Sound}

@@ -1,15 +1,6 @@
 -- Entries not yet released share no byte, with each other or with a page held by the direct calls.
-use Prim.Native.Nat.{ℕ, zero, suc, _+_, _-_, _*_, _/_, _≤_, _<_}
-use mathlib.Core.Path.{_≡_, refl, sym, ap, _∙_, subst}
-use mathlib.Core.List.{List, [], _∷_, _++_}
-use mathlib.Core.Logic.{_⊎_, inl, inr}
-use mathlib.Core.Bool.{Bool}
-use native.Mathlib.Omega.{arith}
-use native.Mathlib.Nat.{zero-add, mul-le-mul-right}
-use lib.Dec.{eqb, leb, ltb}
-use borrow.Author.Tests.{leb-true, leb-false, ltb-true, ltb-false, eqb-true, eq-eqb}
-use Rattle.facts.specs.Lists.{All, total, count}
-use Rattle.facts.proofs.Bools.{by-cases}
+use Rattle.facts.proofs.Prelude.{ℕ, zero, suc, _+_, _-_, _*_, _/_, _≤_, _<_, arith, zero-add, mul-le-mul-right, Bool, List, [], _∷_, _++_, _⊎_, inl, inr, _≡_}
+use Rattle.facts.proofs.Prelude.{refl, sym, ap, _∙_, subst, eqb, leb, ltb, leb-true, leb-false, ltb-true, ltb-false, eqb-true, eq-eqb, All, total, count, by-cases}
 use Rattle.words.specs.Limits.{maxPages}
 use Rattle.words.specs.Word.{granuleOf, kindOf}
 use Rattle.classes.specs.declared.Shape.{Shape}

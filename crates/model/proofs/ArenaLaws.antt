@@ -1,12 +1,6 @@
 -- The arena keeps account of pages: what a commit, a growth or a give takes from the idle pages or adds to them.
-use Prim.Native.Nat.{ℕ, _+_, _≤_}
-use mathlib.Core.Path.{_≡_, refl, ap, _∙_}
-use mathlib.Core.List.{List, [], _∷_}
-use mathlib.Core.Option.{Option, none, some}
-use mathlib.Core.Bool.{Bool, true, false, cond}
-use native.Mathlib.Omega.{arith}
-use borrow.Author.Tests.{leb-true, eqb-true}
-use Rattle.facts.proofs.Bools.{by-cases, and-left, and-right}
+use Rattle.facts.proofs.Prelude.{ℕ, _+_, _≤_, arith, Bool, true, false, cond, List, [], _∷_, Option, none}
+use Rattle.facts.proofs.Prelude.{some, _≡_, refl, ap, _∙_, leb-true, eqb-true, by-cases, and-left, and-right}
 use Rattle.model.specs.Cover.{covers, coversAll, coversRun}
 use Rattle.words.specs.Host.{reservationGranted, commitGranted}
 use Rattle.model.specs.HoleStore.{accepts, insert}

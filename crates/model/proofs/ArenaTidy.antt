@@ -1,12 +1,5 @@
 -- Every step of the arena keeps its hole store tidy, and to its slots.
-use Prim.Native.Nat.{ℕ, _+_, _-_, _≤_}
-use mathlib.Core.List.{List, [], _∷_}
-use mathlib.Core.Option.{Option, none, some}
-use mathlib.Core.Bool.{Bool}
-use native.Mathlib.Omega.{arith}
-use lib.Dec.{leb, ltb}
-use lib.ListN.{length}
-use Rattle.facts.proofs.Bools.{by-cases, and-right}
+use Rattle.facts.proofs.Prelude.{ℕ, _+_, _-_, _≤_, arith, Bool, List, [], _∷_, Option, none, some, leb, ltb, length, by-cases, and-right}
 use Rattle.words.specs.Host.{reservationGranted, commitGranted}
 use Rattle.model.specs.HoleStore.{hole, holeAt, holeSlots, holePagesMax, choose, cutFrom, holeBefore, holeAfter, insert, hasRoom, accepts}
 use Rattle.model.specs.Arena.{Arena, Status, unasked, ready, disabled, newArena, withStatus, withFrontier, give, giveAll, drawFrom, draw, grant, commitReady, commitAs, commit, canGrow, grow}

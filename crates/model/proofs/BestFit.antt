@@ -1,12 +1,5 @@
 -- A commit answers by best fit, or none with its reason, on every arena.
-use Prim.Native.Nat.{ℕ, _+_, _≤_, _<_}
-use mathlib.Core.Path.{_≡_, refl, ap, _∙_}
-use mathlib.Core.List.{List}
-use mathlib.Core.Option.{Option, none, some}
-use mathlib.Core.Bool.{Bool, true, false}
-use lib.Dec.{leb}
-use borrow.Author.Tests.{leb-true, leb-false}
-use Rattle.facts.proofs.Bools.{by-cases}
+use Rattle.facts.proofs.Prelude.{ℕ, _+_, _≤_, _<_, Bool, true, false, List, Option, none, some, _≡_, refl, ap, _∙_, leb, leb-true, leb-false, by-cases}
 use Rattle.words.specs.Host.{reservationGranted, commitGranted}
 use Rattle.model.specs.declared.Hole.{Hole}
 use Rattle.model.specs.HoleStore.{holeAt}

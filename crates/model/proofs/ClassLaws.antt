@@ -1,16 +1,7 @@
 -- What a class's call does to its pages and blocks: no page comes but the run given, none goes but those given back,
 -- what a take answers goes out, and what a release names, no more and no less, comes in.
-use Prim.Native.Nat.{ℕ, _+_, _≤_}
-use mathlib.Core.Path.{_≡_, refl}
-use mathlib.Core.List.{List, [], _∷_, map}
-use mathlib.Core.Option.{Option, none, some}
-use mathlib.Core.Bool.{Bool, true, false, cond, not, _&&_, false≢true}
-use native.Mathlib.Omega.{arith}
-use lib.Dec.{eqb, leb}
-use lib.Seq.{take-append-seam}
-use borrow.Author.Tests.{eqb-true, eq-eqb, leb-true, leb-false, not-false}
-use Rattle.facts.specs.Lists.{every, All, total, elem, distinct, count}
-use Rattle.facts.proofs.Bools.{by-cases, and-right}
+use Rattle.facts.proofs.Prelude.{ℕ, _+_, _≤_, arith, Bool, true, false, cond, not, _&&_, false≢true, List, [], _∷_, map, Option, none, some, _≡_, refl, eqb, leb}
+use Rattle.facts.proofs.Prelude.{take-append-seam, eqb-true, eq-eqb, leb-true, leb-false, not-false, every, All, total, elem, distinct, count, by-cases, and-right}
 use Rattle.rules.specs.declared.Limits.{Limits}
 use Rattle.model.specs.Cover.{covers, coversAll, coversRun}
 use Rattle.words.specs.Word.{pageOf}

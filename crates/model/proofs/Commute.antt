@@ -1,11 +1,5 @@
 -- Neighbouring calls on two classes, at most one of which reaches the arena, may change places.
-use Prim.Native.Nat.{ℕ}
-use mathlib.Core.Path.{_≡_, refl, sym, ap, _∙_}
-use mathlib.Core.List.{[]}
-use mathlib.Core.Bool.{false}
-use mathlib.Core.Logic.{_⊎_, inl, inr}
-use lib.Dec.{eqb}
-use Rattle.facts.specs.Lists.{update}
+use Rattle.facts.proofs.Prelude.{ℕ, false, [], _⊎_, inl, inr, _≡_, refl, sym, ap, _∙_, eqb, update}
 use Rattle.classes.specs.Shape.{shapeOf}
 use Rattle.model.specs.Calls.{Request, Answer, hostOf}
 use Rattle.model.specs.Class.{Class, Ask, done}

@@ -1,7 +1,5 @@
 -- Every page is in exactly one place after every history.
-use Prim.Native.Nat.{ℕ, _+_}
-use mathlib.Core.Path.{_≡_}
-use mathlib.Core.List.{List}
+use Rattle.facts.proofs.Prelude.{ℕ, _+_, List, _≡_}
 use Rattle.classes.specs.Shape.{shapeOf}
 use Rattle.rules.specs.Rules.{Rules}
 use Rattle.model.specs.Calls.{Call}

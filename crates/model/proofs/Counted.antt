@@ -1,16 +1,8 @@
 -- The counts of the arena's record are those of the history.
 --     counted-by    the statement
-use Prim.Native.Nat.{ℕ, suc, _+_, _-_, _*_, _/_, _%_, _^_, _≤_}
-use native.Mathlib.Nat.{div-eq-of-eq-mul-left, zero-div, zero-mul}
-use mathlib.Core.Path.{_≡_, refl, sym, ap, _∙_, subst}
-use mathlib.Core.List.{List, [], _∷_}
-use mathlib.Core.Option.{Option, none, some}
-use mathlib.Core.Bool.{Bool, true, false, cond, not, true≢false, false≢true}
-use native.Mathlib.Omega.{arith}
-use lib.Dec.{eqb, leb}
-use borrow.Author.Tests.{leb-true, leb-false, not-false}
-use Rattle.facts.specs.Lists.{total, below, isSome, every}
-use Rattle.facts.proofs.Bools.{by-cases, and-left, and-right}
+use Rattle.facts.proofs.Prelude.{ℕ, suc, _+_, _-_, _*_, _/_, _%_, _^_, _≤_, arith, div-eq-of-eq-mul-left, zero-div, zero-mul, Bool, true}
+use Rattle.facts.proofs.Prelude.{false, cond, not, true≢false, false≢true, List, [], _∷_, Option, none, some, _≡_, refl, sym, ap, _∙_, subst}
+use Rattle.facts.proofs.Prelude.{eqb, leb, leb-true, leb-false, not-false, total, below, isSome, every, by-cases, and-left, and-right}
 use Rattle.words.specs.Host.{badHost, reservationGranted, commitGranted}
 use Rattle.classes.specs.declared.Shape.{Shape}
 use Rattle.classes.specs.Shape.{shapeOf}

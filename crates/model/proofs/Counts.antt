@@ -1,14 +1,6 @@
 -- Booleans, counting, and sums over lists.
-use Prim.Native.Nat.{ℕ, _+_, _-_, _≤_}
-use mathlib.Core.Path.{_≡_, refl, sym, ap, _∙_}
-use mathlib.Core.List.{List, [], _∷_, _++_, reverse, reverseAux}
-use mathlib.Core.Bool.{Bool, true, false, not, false≢true, true≢false}
-use native.Mathlib.Omega.{arith}
-use lib.Dec.{eqb}
-use lib.ListN.{take, drop, take-append-drop}
-use borrow.Author.Tests.{eqb-true, not-true, not-false}
-use Rattle.facts.specs.Lists.{filter, every, total, elem, distinct, count}
-use Rattle.facts.proofs.Bools.{by-cases, and-left, and-right}
+use Rattle.facts.proofs.Prelude.{ℕ, _+_, _-_, _≤_, arith, Bool, true, false, not, false≢true, true≢false, List, [], _∷_, _++_, reverse, reverseAux, _≡_, refl, sym, ap, _∙_}
+use Rattle.facts.proofs.Prelude.{eqb, take, drop, take-append-drop, eqb-true, not-true, not-false, filter, every, total, elem, distinct, count, by-cases, and-left, and-right}
 
 pub count-append : (w : ℕ) (s t : List ℕ) → count w (s ++ t) ≡ count w s + count w t
 count-append w [] t = omega arith

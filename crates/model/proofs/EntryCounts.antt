@@ -1,14 +1,6 @@
 -- Counting entries: by class and word, and by call and place.
-use Prim.Native.Nat.{ℕ, suc, _+_, _≤_, _<_}
-use mathlib.Core.Path.{_≡_, refl, sym, ap, _∙_}
-use mathlib.Core.List.{List, [], _∷_}
-use mathlib.Core.Bool.{Bool, true, false, cond, not, _&&_, true≢false}
-use mathlib.Core.Logic.{inl, inr}
-use native.Mathlib.Omega.{arith}
-use lib.Dec.{eqb}
-use borrow.Author.Tests.{eqb-true, eqb-false, eq-eqb, ne-eqb, not-false}
-use Rattle.facts.specs.Lists.{filter, total, elem, count}
-use Rattle.facts.proofs.Bools.{by-cases, and-left, and-right}
+use Rattle.facts.proofs.Prelude.{ℕ, suc, _+_, _≤_, _<_, arith, Bool, true, false, cond, not, _&&_, true≢false, List, [], _∷_, inl, inr, _≡_, refl, sym}
+use Rattle.facts.proofs.Prelude.{ap, _∙_, eqb, eqb-true, eqb-false, eq-eqb, ne-eqb, not-false, filter, total, elem, count, by-cases, and-left, and-right}
 use Rattle.model.specs.Entries.{Entry, In, entriesFrom, hasWord}
 use Rattle.model.proofs.Counts.{elem-count, count-elem}
 

@@ -1,10 +1,6 @@
 -- Document 01's examples and the rules beside them hold, by computation: one statement over their table. And two histories with different counts
 -- lead to heaps that differ in these and in the order of their holes alone.
-use mathlib.Core.Path.{_≡_, refl, fun-ext}
-use mathlib.Core.List.{map}
-use mathlib.Core.Bool.{Bool, true, false, cond}
-use lib.Dec.{eqb}
-use native.Mathlib.Omega.{arith}
+use Rattle.facts.proofs.Prelude.{arith, Bool, true, false, cond, map, _≡_, refl, fun-ext, eqb}
 use Rattle.classes.specs.Sizes.{smallSizes, mediumSizes}
 use Rattle.classes.specs.Shape.{smallShape, mediumShape, shapeOf}
 use Rattle.classes.specs.Lookup.{firstFit, sizeClass}

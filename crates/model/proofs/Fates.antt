@@ -1,14 +1,6 @@
 -- The fates that a class's call answers tell how many runs it gave to the arena.
-use Prim.Native.Nat.{ℕ, _+_, _%_}
-use mathlib.Core.Path.{_≡_, refl, sym}
-use mathlib.Core.List.{List, [], _∷_, _++_}
-use mathlib.Core.Option.{Option, none, some}
-use mathlib.Core.Bool.{Bool, true, false, cond}
-use native.Mathlib.Omega.{arith}
-use lib.ListN.{length, take, drop, length-append}
-use lib.Seq.{take-append-seam}
-use Rattle.facts.specs.Lists.{total, every}
-use Rattle.facts.proofs.Bools.{by-cases}
+use Rattle.facts.proofs.Prelude.{ℕ, _+_, _%_, arith, Bool, true, false, cond, List, [], _∷_, _++_, Option, none, some, _≡_}
+use Rattle.facts.proofs.Prelude.{refl, sym, length, take, drop, length-append, take-append-seam, total, every, by-cases}
 use Rattle.words.specs.Word.{pageOf}
 use Rattle.classes.specs.declared.Shape.{Shape}
 use Rattle.rules.specs.declared.Limits.{Limits}

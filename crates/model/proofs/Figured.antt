@@ -1,9 +1,5 @@
 -- A report's figures count the pages held, the idle ones, and those that are both (document 02, A.5).
-use Prim.Native.Nat.{ℕ, _+_}
-use mathlib.Core.Path.{_≡_, refl}
-use mathlib.Core.List.{List}
-use native.Mathlib.Omega.{arith}
-use Rattle.facts.specs.Lists.{total, below}
+use Rattle.facts.proofs.Prelude.{ℕ, _+_, arith, List, _≡_, refl, total, below}
 use Rattle.rules.specs.Rules.{Rules}
 use Rattle.model.specs.Calls.{Call}
 use Rattle.model.specs.Heap.{Heap, newHeap, isHeld, heldPages, figures}

@@ -1,11 +1,5 @@
 -- The page that a test finds, and what the test finds after a change elsewhere.
-use mathlib.Core.Path.{_≡_, refl, sym, ap, _∙_, ap₂}
-use mathlib.Core.List.{List, [], _∷_, _++_}
-use mathlib.Core.Option.{Option, none, some}
-use mathlib.Core.Bool.{Bool, true, false, cond}
-use mathlib.Core.Logic.{_↔_}
-use Rattle.facts.specs.Lists.{All}
-use Rattle.facts.proofs.Bools.{by-cases}
+use Rattle.facts.proofs.Prelude.{Bool, true, false, cond, List, [], _∷_, _++_, _↔_, Option, none, some, _≡_, refl, sym, ap, _∙_, ap₂, All, by-cases}
 use Rattle.model.specs.Page.{Page}
 use Rattle.model.specs.Class.{Class}
 use Rattle.model.specs.Release.{Found, Site, find, prepend, inPartial, inFull, orElse, mapFound, locate}

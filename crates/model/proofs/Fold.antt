@@ -1,12 +1,5 @@
 -- The entries not yet released, as a list that each call changes.
-use Prim.Native.Nat.{ℕ, suc}
-use mathlib.Core.Path.{_≡_, refl}
-use mathlib.Core.List.{List, [], _∷_, _++_}
-use mathlib.Core.Option.{Option, none, some}
-use mathlib.Core.Logic.{_⊎_, inl, inr}
-use mathlib.Core.Bool.{Bool, true, not}
-use Rattle.facts.specs.Lists.{filter, every}
-use Rattle.facts.proofs.Bools.{by-cases, and-left, and-right}
+use Rattle.facts.proofs.Prelude.{ℕ, suc, Bool, true, not, List, [], _∷_, _++_, _⊎_, inl, inr, Option, none, some, _≡_, refl, filter, every, by-cases, and-left, and-right}
 use Rattle.model.specs.Calls.{Answer, Named, names, blocksOf, releasedBy}
 use Rattle.model.specs.History.{Event}
 use Rattle.model.specs.Entries.{Entry, In, Live, entriesFrom, entriesOf, hasWord, releases}

@@ -1,13 +1,6 @@
 -- The runs that a group release gives are those of the groups whose fate says so, in the groups' order.
-use Prim.Native.Nat.{ℕ}
-use mathlib.Core.Path.{_≡_, refl, sym, ap, _∙_}
-use mathlib.Core.List.{List, [], _∷_, _++_}
-use mathlib.Core.Option.{Option, none, some}
-use mathlib.Core.Bool.{Bool, true, false, cond}
-use lib.ListN.{length, take, drop}
-use lib.Seq.{take-append-seam}
-use borrow.Author.Tests.{eqb-true}
-use Rattle.facts.proofs.Bools.{by-cases}
+use Rattle.facts.proofs.Prelude.{ℕ, Bool, true, false, cond, List, [], _∷_, _++_, Option, none, some, _≡_}
+use Rattle.facts.proofs.Prelude.{refl, sym, ap, _∙_, length, take, drop, take-append-seam, eqb-true, by-cases}
 use Rattle.words.specs.Word.{pageOf}
 use Rattle.classes.specs.declared.Shape.{Shape}
 use Rattle.rules.specs.declared.Limits.{Limits}

@@ -1,15 +1,7 @@
 -- The invariant of the heap, and that every call keeps it.
-use Prim.Native.Nat.{ℕ, suc, _+_, _-_, _≤_}
-use mathlib.Core.Path.{_≡_, refl, sym, ap, _∙_, subst}
-use mathlib.Core.List.{List, [], _∷_, append-nil}
-use mathlib.Core.Option.{Option, none, some, Option·none-ne-some}
-use mathlib.Core.Bool.{Bool, true, false, cond, not}
-use native.Mathlib.Omega.{arith}
-use lib.Dec.{eqb, leb, ltb}
-use borrow.Author.Tests.{leb-true, leb-false, ltb-true, eqb-true, eqb-false, ne-eqb, not-false}
-use Rattle.facts.specs.Lists.{filter, every, total, update, count, below}
-use Rattle.facts.proofs.Bools.{by-cases, and-left, and-right, and-no}
-use Rattle.facts.proofs.Lists.{every-at}
+use Rattle.facts.proofs.Prelude.{ℕ, suc, _+_, _-_, _≤_, arith, Bool, true, false, cond, not, List, [], _∷_, append-nil, Option, none, some}
+use Rattle.facts.proofs.Prelude.{Option·none-ne-some, _≡_, refl, sym, ap, _∙_, subst, eqb, leb, ltb, leb-true, leb-false, ltb-true, eqb-true, eqb-false}
+use Rattle.facts.proofs.Prelude.{ne-eqb, not-false, filter, every, total, update, count, below, by-cases, and-left, and-right, and-no, every-at}
 use Rattle.rules.specs.Rules.{Rules}
 use Rattle.model.specs.Cover.{inRun, covers, coversAll, coversRun}
 use Rattle.classes.specs.declared.Shape.{Shape}

@@ -1,15 +1,6 @@
 -- Pages held are those that the history tells: at each call, what was held and is drawn is held or given back, page by page.
-use Prim.Native.Nat.{ℕ, suc, _+_, _-_, _*_, _≤_}
-use mathlib.Core.Path.{_≡_, refl}
-use mathlib.Core.List.{List, [], _∷_}
-use mathlib.Core.Option.{Option, none, some, Option·none-ne-some}
-use mathlib.Core.Bool.{Bool, true, false, cond, not, _||_}
-use native.Mathlib.Omega.{arith}
-use lib.Dec.{leb}
-use lib.ListN.{length}
-use borrow.Author.Tests.{leb-true, not-false}
-use Rattle.facts.specs.Lists.{total, below, every, isSome}
-use Rattle.facts.proofs.Bools.{and-left}
+use Rattle.facts.proofs.Prelude.{ℕ, suc, _+_, _-_, _*_, _≤_, arith, Bool, true, false, cond, not, _||_, List, [], _∷_, Option, none, some}
+use Rattle.facts.proofs.Prelude.{Option·none-ne-some, _≡_, refl, leb, length, leb-true, not-false, total, below, every, isSome, and-left}
 use Rattle.classes.specs.declared.Shape.{Shape}
 use Rattle.classes.specs.Shape.{shapeOf}
 use Rattle.classes.proofs.Shapes.{shape-sound}

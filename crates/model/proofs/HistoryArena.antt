@@ -1,14 +1,6 @@
 -- Along every history the hole store is tidy: hence best fit, joining, the total of the holes, and the figure of the arena's idle pages.
-use Prim.Native.Nat.{ℕ, suc, _+_, _-_, _≤_}
-use mathlib.Core.Path.{_≡_, refl}
-use mathlib.Core.List.{List, [], _∷_}
-use mathlib.Core.Option.{Option, none, some}
-use mathlib.Core.Bool.{Bool, true, false, cond, true≢false}
-use native.Mathlib.Omega.{arith}
-use lib.Dec.{eqb, leb}
-use borrow.Author.Tests.{eqb-false, leb-false}
-use Rattle.facts.specs.Lists.{total, below}
-use Rattle.facts.proofs.Bools.{by-cases}
+use Rattle.facts.proofs.Prelude.{ℕ, suc, _+_, _-_, _≤_, arith, Bool, true, false, cond, true≢false, List, [], _∷_}
+use Rattle.facts.proofs.Prelude.{Option, none, some, _≡_, refl, eqb, leb, eqb-false, leb-false, total, below, by-cases}
 use Rattle.classes.specs.declared.Shape.{Shape}
 use Rattle.classes.specs.Shape.{shapeOf}
 use Rattle.classes.proofs.Shapes.{shape-sound}

@@ -1,11 +1,5 @@
 -- Lists of holes by index, with one hole set or used up: their length, sums, what holds of each.
-use Prim.Native.Nat.{ℕ, zero, suc, _+_, _-_, _≤_, _<_}
-use mathlib.Core.Path.{_≡_, refl, sym, ap, _∙_}
-use mathlib.Core.List.{List, [], _∷_, _++_}
-use mathlib.Core.Bool.{Bool, cond}
-use native.Mathlib.Omega.{arith}
-use lib.ListN.{length}
-use Rattle.facts.specs.Lists.{All, total}
+use Rattle.facts.proofs.Prelude.{ℕ, zero, suc, _+_, _-_, _≤_, _<_, arith, Bool, cond, List, [], _∷_, _++_, _≡_, refl, sym, ap, _∙_, length, All, total}
 use Rattle.model.specs.declared.Hole.{Hole}
 use Rattle.model.specs.HoleStore.{holeAt, setAt, withoutLast, lastHole, removeAt}
 

@@ -1,13 +1,5 @@
 -- The arena's idle pages: holes lie below the frontier, and the report counts the pages in holes and at or above the frontier.
-use Prim.Native.Nat.{ℕ, _+_, _-_, _≤_}
-use mathlib.Core.Path.{_≡_, ap}
-use mathlib.Core.List.{List, [], _∷_}
-use mathlib.Core.Option.{some}
-use native.Mathlib.Omega.{arith}
-use lib.Dec.{ltb}
-use borrow.Author.Tests.{ltb-true, ltb-false}
-use Rattle.facts.specs.Lists.{All, total, below}
-use Rattle.facts.proofs.Bools.{by-cases}
+use Rattle.facts.proofs.Prelude.{ℕ, _+_, _-_, _≤_, arith, List, [], _∷_, some, _≡_, ap, ltb, ltb-true, ltb-false, All, total, below, by-cases}
 use Rattle.model.specs.Cover.{covers, coversRun}
 use Rattle.model.specs.declared.Hole.{Hole}
 use Rattle.model.specs.Arena.{Arena, commit}

@@ -1,17 +1,7 @@
 -- Where a given run stands among the holes, case by case.
-use Prim.Native.Nat.{ℕ, suc, _+_, _-_, _≤_, _<_}
-use mathlib.Core.Path.{_≡_, refl, sym, ap, _∙_}
-use mathlib.Core.List.{List}
-use mathlib.Core.Option.{Option}
-use mathlib.Core.Bool.{true, false}
-use mathlib.Core.Logic.{_⊎_, inl, inr, _↔_}
-use native.Mathlib.Omega.{arith}
-use lib.Dec.{eqb, leb, ltb}
-use lib.ListN.{length}
-use borrow.Author.Tests.{eqb-true, eqb-false, eq-eqb, ne-eqb, leb-true, le-leb, ltb-true, lt-ltb}
+use Rattle.facts.proofs.Prelude.{ℕ, suc, _+_, _-_, _≤_, _<_, arith, true, false, List, _⊎_, inl, inr, _↔_, Option, _≡_, refl, sym, ap, _∙_, eqb, leb, ltb}
+use Rattle.facts.proofs.Prelude.{length, eqb-true, eqb-false, eq-eqb, ne-eqb, leb-true, le-leb, ltb-true, lt-ltb, update, by-cases, and-left, and-right}
 use Rattle.model.specs.declared.Hole.{Hole}
-use Rattle.facts.specs.Lists.{update}
-use Rattle.facts.proofs.Bools.{by-cases, and-left, and-right}
 use Rattle.model.specs.HoleStore.{HoleStore, hole, holeAt, setAt, removeAt, endsAt, startsAt, holeBefore, holeAfter, holeSlots, holePagesMax, withBoth, place, insert, hasRoom, accepts}
 use Rattle.model.specs.Arena.{Arena, give}
 use Rattle.model.specs.Joining.{NoneEnds, NoneStarts, Touches, HasRoom, at, Stand, JoinedWhere, joins-none, joins-before, joins-after, joins-both, joins-last-after, joins-last-joined}

@@ -1,14 +1,6 @@
 -- What a class answers on a new run tells which run it is.
-use Prim.Native.Nat.{ℕ, zero, suc, _-_, _≤_, min}
-use mathlib.Core.Path.{_≡_, refl, sym, ap, _∙_}
-use mathlib.Core.List.{List, [], _∷_, reverse, reverse-reverse, append-nil, head-eq-of-cons-eq}
-use mathlib.Core.Option.{Option, none, some}
-use mathlib.Core.Bool.{Bool, true, false}
-use native.Mathlib.Omega.{arith}
-use native.Mathlib.Nat.{sub-zero}
-use lib.ListN.{length, take, length-reverse, length-take}
-use lib.Seq.{take-append-seam, take-nil}
-use borrow.Author.Tests.{ne-eqb}
+use Rattle.facts.proofs.Prelude.{ℕ, zero, suc, _-_, _≤_, min, arith, sub-zero, Bool, true, false, List, [], _∷_, reverse, reverse-reverse, append-nil, head-eq-of-cons-eq}
+use Rattle.facts.proofs.Prelude.{Option, none, some, _≡_, refl, sym, ap, _∙_, length, take, length-reverse, length-take, take-append-seam, take-nil, ne-eqb}
 use Rattle.classes.specs.declared.Shape.{Shape}
 use Rattle.classes.specs.way.Sound.{Sound}
 use Rattle.model.specs.Calls.{blocksOf}

@@ -1,16 +1,8 @@
 -- A stack of runs against the order of the releases: the one on top was released to last.
 --     Ordered     each run of a list was released to after those behind it, as o tells
 --     nextAt      what a release to the run at r makes of the telling; nextAll, releases in turn
-use Prim.Native.Nat.{ℕ, _+_, _≤_}
-use mathlib.Core.Path.{_≡_, refl, ap}
-use mathlib.Core.List.{List, [], _∷_, map}
-use mathlib.Core.Logic.{_⊎_, inl, inr}
-use mathlib.Core.Bool.{Bool, true, false, cond, not, _&&_, _||_}
-use native.Mathlib.Omega.{arith}
-use lib.Dec.{eqb}
-use borrow.Author.Tests.{eqb-true, eq-eqb, not-true}
-use Rattle.facts.specs.Lists.{All, total, elem, count}
-use Rattle.facts.proofs.Bools.{by-cases, and-left, and-right, or-right, eqb-turned}
+use Rattle.facts.proofs.Prelude.{ℕ, _+_, _≤_, arith, Bool, true, false, cond, not, _&&_, _||_, List, [], _∷_, map, _⊎_, inl, inr, _≡_, refl, ap}
+use Rattle.facts.proofs.Prelude.{eqb, eqb-true, eq-eqb, not-true, All, total, elem, count, by-cases, and-left, and-right, or-right, eqb-turned}
 use Rattle.words.specs.Word.{pageOf}
 use Rattle.model.specs.Page.{Page}
 use Rattle.model.specs.Class.{Cold}

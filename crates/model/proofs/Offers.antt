@@ -1,14 +1,6 @@
 -- What is at hand is offered: a class's lists and what the history tells of its runs.
-use Prim.Native.Nat.{ℕ, zero, suc, _+_, _-_, _≤_, _<_}
-use mathlib.Core.Path.{_≡_, refl, sym, ap, _∙_, subst}
-use mathlib.Core.List.{List, [], _∷_}
-use mathlib.Core.Logic.{_↔_}
-use mathlib.Core.Bool.{Bool, true, false, cond, not, _&&_, _||_, true≢false, false≢true}
-use native.Mathlib.Omega.{arith}
-use lib.Dec.{eqb, ltb}
-use borrow.Author.Tests.{eqb-true, eq-eqb, ltb-true, ltb-false}
-use Rattle.facts.specs.Lists.{isNil, All, total, elem, count}
-use Rattle.facts.proofs.Bools.{by-cases, and-right}
+use Rattle.facts.proofs.Prelude.{ℕ, zero, suc, _+_, _-_, _≤_, _<_, arith, Bool, true, false, cond, not, _&&_, _||_, true≢false, false≢true, List, [], _∷_, _↔_, _≡_}
+use Rattle.facts.proofs.Prelude.{refl, sym, ap, _∙_, subst, eqb, ltb, eqb-true, eq-eqb, ltb-true, ltb-false, isNil, All, total, elem, count, by-cases, and-right}
 use Rattle.classes.specs.declared.Shape.{Shape}
 use Rattle.classes.specs.Shape.{shapeOf}
 use Rattle.classes.specs.way.Sound.{Sound}

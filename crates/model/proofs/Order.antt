@@ -1,17 +1,8 @@
 -- Arenas that differ in the order of their holes and in the three counts alone answer alike, and go on differing in these alone.
-use Prim.Native.Nat.{ℕ, _+_, _-_, _≤_, _<_}
-use mathlib.Core.Path.{_≡_, refl, sym, ap, _∙_, ap₂, subst}
-use mathlib.Core.List.{List, [], _∷_}
-use mathlib.Core.Option.{Option, none, some}
-use mathlib.Core.Bool.{Bool, true, false, cond, _&&_, _||_}
-use native.Mathlib.Omega.{arith}
-use lib.Dec.{eqb, leb, ltb}
-use lib.ListN.{length}
-use borrow.Author.Tests.{eqb-true, eq-eqb}
+use Rattle.facts.proofs.Prelude.{ℕ, _+_, _-_, _≤_, _<_, arith, Bool, true, false, cond, _&&_, _||_, List, [], _∷_, Option, none, some, _≡_, refl, sym}
+use Rattle.facts.proofs.Prelude.{ap, _∙_, ap₂, subst, eqb, leb, ltb, length, eqb-true, eq-eqb, All, total, isSome, by-cases, and-left, and-right}
 use Rattle.words.specs.Host.{reservationGranted, commitGranted}
 use Rattle.model.specs.declared.Hole.{Hole}
-use Rattle.facts.specs.Lists.{All, total, isSome}
-use Rattle.facts.proofs.Bools.{by-cases, and-left, and-right}
 use Rattle.model.specs.Cover.{covers, coversAll}
 use Rattle.model.specs.HoleStore.{HoleStore, hole, holeAt, removeAt, cutFrom, takeAt, endsAt, startsAt, holeBefore, holeAfter, holeSlots, holePagesMax, insert, hasRoom, accepts}
 use Rattle.model.specs.Arena.{Arena, Status, unasked, ready, disabled, withStatus, withFrontier, counted, give, giveAll, given, drawFrom, draw, grant, commitReady, commitAs, commit, canGrow, grow}

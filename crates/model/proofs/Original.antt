@@ -1,11 +1,6 @@
 -- By document 01's own hole store each call is answered as by the model and leaves its heap, along every history in which no given run that the
 -- total allows touches a hole and each hole chosen is the lowest page.
-use Prim.Native.Nat.{ℕ, suc, _+_, _-_}
-use mathlib.Core.Path.{_≡_, refl, sym, ap, ap₂, _∙_, subst}
-use mathlib.Core.List.{List, [], _∷_, _++_, map}
-use mathlib.Core.Bool.{Bool, true, false, cond}
-use lib.ListN.{length, take}
-use Rattle.facts.specs.Lists.{All}
+use Rattle.facts.proofs.Prelude.{ℕ, suc, _+_, _-_, Bool, true, false, cond, List, [], _∷_, _++_, map, _≡_, refl, sym, ap, ap₂, _∙_, subst, length, take, All}
 use Rattle.classes.specs.Shape.{shapeOf}
 use Rattle.rules.specs.Rules.{plainRules}
 use Rattle.model.specs.Cover.{covers, coversRun}

@@ -1,9 +1,5 @@
 -- The examples of document 01's own hole store hold, by computation; and equality is claimed for a history that takes from its holes.
-use Prim.Native.Nat.{ℕ, _+_}
-use mathlib.Core.Path.{_≡_, refl}
-use mathlib.Core.List.{List, [], _∷_, map}
-use mathlib.Core.Logic.{inl, inr}
-use native.Mathlib.Omega.{arith}
+use Rattle.facts.proofs.Prelude.{ℕ, _+_, arith, List, [], _∷_, map, inl, inr, _≡_, refl}
 use Rattle.classes.specs.Sizes.{smallSizes, mediumSizes}
 use Rattle.classes.specs.Shape.{smallShape, mediumShape, shapeOf}
 use Rattle.rules.specs.Rules.{plainRules}

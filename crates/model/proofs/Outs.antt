@@ -1,16 +1,7 @@
 -- A block is out in a class exactly if it is an entry of the class not yet released, and a release that is not refused has no other
 -- word.
-use Prim.Native.Nat.{ℕ}
-use mathlib.Core.Path.{_≡_, refl}
-use mathlib.Core.List.{List, []}
-use mathlib.Core.Option.{Option, some}
-use mathlib.Core.Bool.{Bool, true, false, cond, not, _&&_, _||_, true≢false}
-use native.Mathlib.Omega.{arith}
-use lib.Dec.{ltb}
-use lib.ListN.{length}
-use borrow.Author.Tests.{not-false}
-use Rattle.facts.specs.Lists.{isNil, every, distinct}
-use Rattle.facts.proofs.Bools.{by-cases}
+use Rattle.facts.proofs.Prelude.{ℕ, arith, Bool, true, false, cond, not, _&&_, _||_, true≢false, List, [], Option}
+use Rattle.facts.proofs.Prelude.{some, _≡_, refl, ltb, length, not-false, isNil, every, distinct, by-cases}
 use Rattle.words.specs.Host.{badHost}
 use Rattle.words.specs.Word.{chunkKind}
 use Rattle.classes.specs.declared.Shape.{Shape}

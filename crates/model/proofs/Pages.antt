@@ -1,15 +1,6 @@
 -- What a page keeps: its blocks out are the carved ones that are not free, and pops and returns move them one by one.
-use Prim.Native.Nat.{ℕ, zero, suc, _+_, _-_, _*_, _/_, _^_, _≤_, _<_}
-use mathlib.Core.Path.{_≡_, refl}
-use mathlib.Core.List.{List, [], _∷_, _++_}
-use mathlib.Core.Bool.{Bool, true, false, cond, not}
-use native.Mathlib.Omega.{arith}
-use native.Mathlib.Nat.{add-zero, add-suc, zero-add, mul-le-mul-right}
-use lib.Dec.{eqb, leb}
-use lib.ListN.{length}
-use borrow.Author.Tests.{eqb-true, ne-eqb, not-true, leb-true, leb-false}
-use Rattle.facts.specs.Lists.{All, total, elem, count}
-use Rattle.facts.proofs.Bools.{by-cases, and-left, and-right}
+use Rattle.facts.proofs.Prelude.{ℕ, zero, suc, _+_, _-_, _*_, _/_, _^_, _≤_, _<_, arith, add-zero, add-suc, zero-add, mul-le-mul-right, Bool, true, false, cond, not, List, []}
+use Rattle.facts.proofs.Prelude.{_∷_, _++_, _≡_, refl, eqb, leb, length, eqb-true, ne-eqb, not-true, leb-true, leb-false, All, total, elem, count, by-cases, and-left, and-right}
 use Rattle.model.specs.Cover.{covers}
 use Rattle.words.specs.Word.{kindBits}
 use Rattle.classes.specs.declared.Shape.{Shape}

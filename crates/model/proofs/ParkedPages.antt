@@ -1,12 +1,5 @@
 -- Parked pages: one class holds a page at most, so a page is parked once at most, and then it is held.
-use Prim.Native.Nat.{ℕ, zero, suc, _+_, _*_, _≤_}
-use mathlib.Core.Path.{_≡_, refl, sym, _∙_}
-use mathlib.Core.List.{List}
-use native.Mathlib.Omega.{arith}
-use lib.Dec.{eqb}
-use borrow.Author.Tests.{eqb-true}
-use Rattle.facts.specs.Lists.{total, below}
-use Rattle.facts.proofs.Bools.{by-cases}
+use Rattle.facts.proofs.Prelude.{ℕ, zero, suc, _+_, _*_, _≤_, arith, List, _≡_, refl, sym, _∙_, eqb, eqb-true, total, below, by-cases}
 use Rattle.classes.specs.Shape.{shapeOf, classCount}
 use Rattle.rules.specs.Rules.{Rules}
 use Rattle.model.specs.Cover.{covers}

@@ -1,17 +1,7 @@
 -- A run put among the holes: what it joins, the account of every measure of holes, and that no two touch afterwards.
-use Prim.Native.Nat.{ℕ, suc, _+_, _-_, _≤_, _<_}
-use mathlib.Core.Path.{_≡_, refl, sym, ap, _∙_}
-use mathlib.Core.List.{List, [], _∷_}
-use mathlib.Core.Option.{Option, none, some}
-use mathlib.Core.Bool.{Bool, true, false}
-use mathlib.Core.Logic.{_⊎_, inl, inr}
-use native.Mathlib.Omega.{arith}
-use lib.Dec.{eqb, ltb}
-use lib.ListN.{length, length-append}
-use borrow.Author.Tests.{eqb-true, eqb-false, eq-eqb, ne-eqb, ltb-true, ltb-false}
+use Rattle.facts.proofs.Prelude.{ℕ, suc, _+_, _-_, _≤_, _<_, arith, Bool, true, false, List, [], _∷_, _⊎_, inl, inr, Option, none, some, _≡_, refl, sym}
+use Rattle.facts.proofs.Prelude.{ap, _∙_, eqb, ltb, length, length-append, eqb-true, eqb-false, eq-eqb, ne-eqb, ltb-true, ltb-false, All, total, by-cases}
 use Rattle.model.specs.declared.Hole.{Hole}
-use Rattle.facts.specs.Lists.{All, total}
-use Rattle.facts.proofs.Bools.{by-cases}
 use Rattle.model.specs.Cover.{covers}
 use Rattle.model.specs.HoleStore.{hole, holeAt, setAt, removeAt, next, lowestThat, endsAt, startsAt, holeBefore, holeAfter, withBoth, place, holeSlots, hasRoom}
 use Rattle.model.specs.Joining.{NoTwoTouch}

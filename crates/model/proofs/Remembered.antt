@@ -1,17 +1,7 @@
 -- Document 01's choice of a hole is one of the least sufficient length; where it is the lowest page it is the model's. A given run that touches no
 -- hole, or passes the total, goes where the model puts it. So a call's part at the arena is the model's, memory aside.
-use Prim.Native.Nat.{ℕ, _+_, _≤_, _<_}
-use mathlib.Core.Path.{_≡_, refl, sym, ap, _∙_}
-use mathlib.Core.List.{List, [], _∷_}
-use mathlib.Core.Option.{Option, none, some}
-use mathlib.Core.Bool.{Bool, true, false, _&&_, false≢true}
-use mathlib.Core.Logic.{inl, inr}
-use native.Mathlib.Omega.{arith}
-use lib.Dec.{eqb, leb, ltb}
-use lib.ListN.{length}
-use borrow.Author.Tests.{eqb-true, eqb-false, eq-eqb, leb-true, ltb-true, ltb-false, lt-ltb}
-use Rattle.facts.specs.Lists.{All, total}
-use Rattle.facts.proofs.Bools.{by-cases, and-left, and-right}
+use Rattle.facts.proofs.Prelude.{ℕ, _+_, _≤_, _<_, arith, Bool, true, false, _&&_, false≢true, List, [], _∷_, inl, inr, Option, none, some, _≡_, refl, sym, ap, _∙_}
+use Rattle.facts.proofs.Prelude.{eqb, leb, ltb, length, eqb-true, eqb-false, eq-eqb, leb-true, ltb-true, ltb-false, lt-ltb, All, total, by-cases, and-left, and-right}
 use Rattle.words.specs.Host.{reservationGranted, commitGranted}
 use Rattle.model.specs.Cover.{covers}
 use Rattle.model.specs.declared.Hole.{Hole}

@@ -1,18 +1,8 @@
 -- The arena's status is the reservation that the calls and answers of a history tell.
 --     never-run    where the reservation was not asked for, no class has a run
 --     reserved     the statement
-use Prim.Native.Nat.{ℕ, suc, _+_, _-_, _*_, _^_, _≤_}
-use mathlib.Core.Path.{_≡_, refl, sym, ap, _∙_, subst}
-use mathlib.Core.Logic.{_↔_}
-use mathlib.Core.List.{List, [], _∷_}
-use mathlib.Core.Option.{Option, none, some, Option·none-ne-some}
-use mathlib.Core.Bool.{Bool, true, false, cond, false≢true}
-use native.Mathlib.Omega.{arith}
-use lib.Dec.{leb, ltb}
-use lib.ListN.{length}
-use borrow.Author.Tests.{eqb-true, ltb-true, leb-true, lt-ltb, le-leb}
-use Rattle.facts.specs.Lists.{total}
-use Rattle.facts.proofs.Bools.{by-cases, and-left, and-right, and-no, nor-left}
+use Rattle.facts.proofs.Prelude.{ℕ, suc, _+_, _-_, _*_, _^_, _≤_, arith, Bool, true, false, cond, false≢true, List, [], _∷_, _↔_, Option, none, some, Option·none-ne-some, _≡_}
+use Rattle.facts.proofs.Prelude.{refl, sym, ap, _∙_, subst, leb, ltb, length, eqb-true, ltb-true, leb-true, lt-ltb, le-leb, total, by-cases, and-left, and-right, and-no, nor-left}
 use Rattle.words.specs.Host.{reservationGranted, commitGranted}
 use Rattle.classes.specs.declared.Shape.{Shape}
 use Rattle.classes.specs.Shape.{shapeOf}

@@ -1,13 +1,5 @@
 -- After every history, the runs of a class and the clean ones among them are those that the history tells.
-use Prim.Native.Nat.{ℕ, suc}
-use mathlib.Core.Path.{_≡_, refl, sym, subst}
-use mathlib.Core.List.{List, [], _∷_}
-use mathlib.Core.Option.{Option, none, some}
-use mathlib.Core.Bool.{Bool, false}
-use native.Mathlib.Omega.{arith}
-use lib.Dec.{eqb}
-use borrow.Author.Tests.{eqb-false, eq-eqb, ne-eqb}
-use Rattle.facts.proofs.Bools.{and-no}
+use Rattle.facts.proofs.Prelude.{ℕ, suc, arith, Bool, false, List, [], _∷_, Option, none, some, _≡_, refl, sym, subst, eqb, eqb-false, eq-eqb, ne-eqb, and-no}
 use Rattle.classes.specs.Shape.{shapeOf}
 use Rattle.classes.proofs.Shapes.{shape-sound}
 use Rattle.rules.specs.Rules.{Rules}

@@ -1,17 +1,8 @@
 -- What a request does to the run of its class at page q, told from its answer: whether the class has it, and whether it is clean.
-use Prim.Native.Nat.{ℕ, _+_, _≤_}
-use mathlib.Core.Path.{_≡_, refl, sym, ap, _∙_}
-use mathlib.Core.List.{List, [], _∷_, map, _++_}
-use mathlib.Core.Option.{Option, none, some}
-use mathlib.Core.Bool.{Bool, true, false, cond, not, _&&_, _||_, true≢false, false≢true}
-use native.Mathlib.Omega.{arith}
-use lib.Dec.{eqb}
-use lib.ListN.{length, drop}
+use Rattle.facts.proofs.Prelude.{ℕ, _+_, _≤_, arith, Bool, true, false, cond, not, _&&_, _||_, true≢false, false≢true, List, [], _∷_, map, _++_}
+use Rattle.facts.proofs.Prelude.{Option, none, some, _≡_, refl, sym, ap, _∙_, eqb, length, drop, take-append-seam, eqb-true, eqb-false, eq-eqb}
+use Rattle.facts.proofs.Prelude.{ne-eqb, not-true, not-false, isNil, filter, every, elem, any, distinct, count, by-cases, and-left, and-right, and-no}
 use lib.ListN as ListN
-use lib.Seq.{take-append-seam}
-use borrow.Author.Tests.{eqb-true, eqb-false, eq-eqb, ne-eqb, not-true, not-false}
-use Rattle.facts.specs.Lists.{isNil, filter, every, elem, any, distinct, count}
-use Rattle.facts.proofs.Bools.{by-cases, and-left, and-right, and-no}
 use Rattle.words.specs.Word.{countOf, pageOf}
 use Rattle.classes.specs.declared.Shape.{Shape}
 use Rattle.classes.specs.way.Sound.{Sound}

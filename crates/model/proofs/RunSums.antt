@@ -1,15 +1,6 @@
 -- Runs with no page at or above a frontier within the arena count all their pages in it.
-use Prim.Native.Nat.{ℕ, zero, suc, _+_, _*_, _≤_}
-use mathlib.Core.Path.{_≡_, _∙_}
-use mathlib.Core.List.{List, [], _∷_}
-use mathlib.Core.Option.{Option, none, some}
-use mathlib.Core.Bool.{Bool, true, false, cond}
-use native.Mathlib.Omega.{arith}
-use lib.Dec.{ltb}
-use lib.ListN.{length}
-use borrow.Author.Tests.{ltb-true, ltb-false}
-use Rattle.facts.specs.Lists.{total, below}
-use Rattle.facts.proofs.Bools.{by-cases}
+use Rattle.facts.proofs.Prelude.{ℕ, zero, suc, _+_, _*_, _≤_, arith, Bool, true, false, cond, List, [], _∷_, Option}
+use Rattle.facts.proofs.Prelude.{none, some, _≡_, _∙_, ltb, length, ltb-true, ltb-false, total, below, by-cases}
 use Rattle.model.specs.Cover.{covers, coversRun}
 use Rattle.model.specs.Heap.{runWith}
 use Rattle.model.specs.Ledger.{above}

@@ -1,10 +1,5 @@
 -- Runs of pages, and the pages at or above a frontier.
-use Prim.Native.Nat.{ℕ, _+_, _-_, _≤_, _<_}
-use mathlib.Core.Path.{_≡_}
-use native.Mathlib.Omega.{arith}
-use lib.Dec.{ltb}
-use borrow.Author.Tests.{ltb-true, ltb-false, le-leb, lt-leb, lt-ltb, le-ltb}
-use Rattle.facts.proofs.Bools.{by-cases}
+use Rattle.facts.proofs.Prelude.{ℕ, _+_, _-_, _≤_, _<_, arith, _≡_, ltb, ltb-true, ltb-false, le-leb, lt-leb, lt-ltb, le-ltb, by-cases}
 use Rattle.model.specs.Cover.{inRun, covers}
 use Rattle.model.specs.Ledger.{above}
 

@@ -1,13 +1,6 @@
 -- A class's runs, and which of them are clean, are what the history tells: one request, then every history.
-use Prim.Native.Nat.{ℕ, _+_, _-_, _≤_}
-use mathlib.Core.Path.{_≡_, refl, sym, ap, _∙_}
-use mathlib.Core.List.{List, [], _∷_}
-use mathlib.Core.Bool.{Bool, true, false, cond, not, _&&_, _||_, false≢true}
-use native.Mathlib.Omega.{arith}
-use lib.Dec.{eqb}
-use borrow.Author.Tests.{eqb-true, eqb-false, eq-eqb, ne-eqb}
-use Rattle.facts.specs.Lists.{total, any, elem, count}
-use Rattle.facts.proofs.Bools.{by-cases, and-left, and-no}
+use Rattle.facts.proofs.Prelude.{ℕ, _+_, _-_, _≤_, arith, Bool, true, false, cond, not, _&&_, _||_, false≢true, List, [], _∷_, _≡_, refl}
+use Rattle.facts.proofs.Prelude.{sym, ap, _∙_, eqb, eqb-true, eqb-false, eq-eqb, ne-eqb, total, any, elem, count, by-cases, and-left, and-no}
 use Rattle.words.specs.Host.{discardZeroed}
 use Rattle.classes.specs.declared.Shape.{Shape}
 use Rattle.classes.specs.way.Sound.{Sound}

@@ -1,11 +1,6 @@
 -- Heaps that differ in the order of their holes and in the three counts alone answer every call alike, a report's counts aside, along every
 -- history.
-use Prim.Native.Nat.{ℕ, suc, _+_, _-_, _≤_}
-use mathlib.Core.Path.{_≡_, refl, ap, ap₂, subst}
-use mathlib.Core.List.{List, [], _∷_, map}
-use mathlib.Core.Option.{Option}
-use mathlib.Core.Bool.{Bool, true, false, cond}
-use native.Mathlib.Omega.{arith}
+use Rattle.facts.proofs.Prelude.{ℕ, suc, _+_, _-_, _≤_, arith, Bool, true, false, cond, List, [], _∷_, map, Option, _≡_, refl, ap, ap₂, subst}
 use Rattle.classes.specs.declared.Shape.{Shape}
 use Rattle.classes.specs.Shape.{shapeOf}
 use Rattle.classes.proofs.Shapes.{shape-sound}

@@ -1,10 +1,5 @@
 -- `Since` as a test that each event changes.
-use mathlib.Core.Path.{_≡_, refl}
-use mathlib.Core.List.{List, [], _∷_}
-use mathlib.Core.Logic.{_⊎_, inl, inr}
-use mathlib.Core.Bool.{Bool, true, false, not, _&&_, _||_, false≢true}
-use Rattle.facts.specs.Lists.{every}
-use Rattle.facts.proofs.Bools.{by-cases, and-left, and-right}
+use Rattle.facts.proofs.Prelude.{Bool, true, false, not, _&&_, _||_, false≢true, List, [], _∷_, _⊎_, inl, inr, _≡_, refl, every, by-cases, and-left, and-right}
 use Rattle.model.specs.History.{Event}
 use Rattle.model.specs.Offered.{Since}
 

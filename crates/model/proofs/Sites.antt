@@ -1,14 +1,6 @@
 -- A class's pages with blocks out: how often a word is out there, the page that a test finds, and the class without it.
-use Prim.Native.Nat.{ℕ, _+_, _≤_}
-use mathlib.Core.Path.{_≡_, refl, sym, ap, subst}
-use mathlib.Core.List.{List, [], _∷_}
-use mathlib.Core.Option.{Option, none, some, Option·none-ne-some}
-use mathlib.Core.Bool.{Bool, true, cond, false≢true}
-use native.Mathlib.Omega.{arith}
-use lib.Dec.{leb}
-use borrow.Author.Tests.{eqb-true, leb-true, leb-false}
-use Rattle.facts.specs.Lists.{All, total, isSome}
-use Rattle.facts.proofs.Bools.{by-cases}
+use Rattle.facts.proofs.Prelude.{ℕ, _+_, _≤_, arith, Bool, true, cond, false≢true, List, [], _∷_, Option, none, some, Option·none-ne-some}
+use Rattle.facts.proofs.Prelude.{_≡_, refl, sym, ap, subst, leb, eqb-true, leb-true, leb-false, All, total, isSome, by-cases}
 use Rattle.classes.specs.declared.Shape.{Shape}
 use Rattle.classes.specs.way.Sound.{Sound}
 use Rattle.model.specs.Page.{Page, isOut}

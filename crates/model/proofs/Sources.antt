@@ -1,16 +1,6 @@
 -- In which order a take turns to its sources, by the history.
-use Prim.Native.Nat.{ℕ, _+_, _-_, _≤_}
-use mathlib.Core.Path.{_≡_, refl, sym, ap, _∙_, subst}
-use mathlib.Core.List.{List, [], _∷_, _++_}
-use mathlib.Core.Option.{Option, none, some}
-use mathlib.Core.Logic.{_⊎_, inl, inr}
-use mathlib.Core.Bool.{true, false, cond, true≢false, false≢true}
-use native.Mathlib.Omega.{arith}
-use lib.Dec.{eqb, ltb}
-use lib.ListN.{length}
-use borrow.Author.Tests.{eqb-true, eqb-false, eq-eqb}
-use Rattle.facts.specs.Lists.{every, All, total, elem, count}
-use Rattle.facts.proofs.Bools.{by-cases}
+use Rattle.facts.proofs.Prelude.{ℕ, _+_, _-_, _≤_, arith, true, false, cond, true≢false, false≢true, List, [], _∷_, _++_, _⊎_, inl, inr, Option, none, some}
+use Rattle.facts.proofs.Prelude.{_≡_, refl, sym, ap, _∙_, subst, eqb, ltb, length, eqb-true, eqb-false, eq-eqb, every, All, total, elem, count, by-cases}
 use Rattle.words.specs.Host.{badHost}
 use Rattle.classes.specs.declared.Shape.{Shape}
 use Rattle.classes.specs.Shape.{shapeOf}

@@ -1,15 +1,6 @@
 -- The hole store: a choice is the least hole that suffices, and taking keeps account of pages.
-use Prim.Native.Nat.{ℕ, suc, _+_, _-_, _≤_, _<_}
-use mathlib.Core.Path.{_≡_, refl}
-use mathlib.Core.List.{List, [], _∷_}
-use mathlib.Core.Option.{Option, none, some}
-use mathlib.Core.Bool.{Bool, true, false, cond, _&&_, true≢false}
-use native.Mathlib.Omega.{arith}
-use lib.Dec.{eqb, leb, ltb}
-use lib.ListN.{length}
-use borrow.Author.Tests.{leb-true, leb-false, le-leb, ltb-true, ltb-false, eqb-true, eq-eqb}
-use Rattle.facts.specs.Lists.{All, total}
-use Rattle.facts.proofs.Bools.{by-cases, and-left, and-right}
+use Rattle.facts.proofs.Prelude.{ℕ, suc, _+_, _-_, _≤_, _<_, arith, Bool, true, false, cond, _&&_, true≢false, List, [], _∷_, Option, none, some, _≡_, refl, eqb}
+use Rattle.facts.proofs.Prelude.{leb, ltb, length, leb-true, leb-false, le-leb, ltb-true, ltb-false, eqb-true, eq-eqb, All, total, by-cases, and-left, and-right}
 use Rattle.model.specs.Cover.{covers}
 use Rattle.model.specs.declared.Hole.{Hole}
 use Rattle.model.specs.HoleStore.{HoleStore, hole, goesBefore, Fit, fitAt, nearer, leastFit, indexOf, holeAt, choose, cutFrom, takeAt}

@@ -1,19 +1,9 @@
 -- A class's lists against the history: every partial page has a block out, and the cold runs are those that the history tells. One request, then
 -- every history.
-use Prim.Native.Nat.{ℕ, suc, _+_, _-_, _%_, _≤_}
-use mathlib.Core.Path.{_≡_, refl, sym, ap, _∙_, subst}
-use mathlib.Core.List.{List, [], _∷_, _++_, map}
-use mathlib.Core.Logic.{inl, inr}
-use mathlib.Core.Option.{Option, none, some}
-use mathlib.Core.Bool.{Bool, true, false, cond, not, _&&_, _||_, true≢false, false≢true}
-use native.Mathlib.Omega.{arith}
-use lib.Dec.{eqb, leb, ltb}
-use lib.ListN.{length, drop}
+use Rattle.facts.proofs.Prelude.{ℕ, suc, _+_, _-_, _%_, _≤_, arith, Bool, true, false, cond, not, _&&_, _||_, true≢false, false≢true, List, [], _∷_, _++_, map, inl, inr, Option}
+use Rattle.facts.proofs.Prelude.{none, some, _≡_, refl, sym, ap, _∙_, subst, eqb, leb, ltb, length, drop, take-append-seam, eqb-true, eqb-false, eq-eqb, ne-eqb, leb-true, ltb-true}
+use Rattle.facts.proofs.Prelude.{not-true, not-false, isNil, every, any, All, total, elem, distinct, count, by-cases, and-left, and-right, and-no, or-left, or-right, eqb-turned}
 use lib.ListN as ListN
-use lib.Seq.{take-append-seam}
-use borrow.Author.Tests.{eqb-true, eqb-false, eq-eqb, ne-eqb, leb-true, ltb-true, not-true, not-false}
-use Rattle.facts.specs.Lists.{isNil, every, any, All, total, elem, distinct, count}
-use Rattle.facts.proofs.Bools.{by-cases, and-left, and-right, and-no, or-left, or-right, eqb-turned}
 use Rattle.words.specs.Word.{pageOf}
 use Rattle.classes.specs.declared.Shape.{Shape}
 use Rattle.classes.specs.Shape.{shapeOf, smallShape, mediumShape}

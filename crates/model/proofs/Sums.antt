@@ -1,12 +1,5 @@
 -- Sums over the pages of an arena, and over the classes.
-use Prim.Native.Nat.{ℕ, zero, suc, _+_, _-_, _≤_}
-use mathlib.Core.Path.{_≡_, refl, sym, ap, _∙_}
-use mathlib.Core.List.{List, [], _∷_}
-use native.Mathlib.Omega.{arith}
-use lib.Dec.{ltb}
-use borrow.Author.Tests.{ltb-true, ltb-false}
-use Rattle.facts.specs.Lists.{total, below}
-use Rattle.facts.proofs.Bools.{by-cases}
+use Rattle.facts.proofs.Prelude.{ℕ, zero, suc, _+_, _-_, _≤_, arith, List, [], _∷_, _≡_, refl, sym, ap, _∙_, ltb, ltb-true, ltb-false, total, below, by-cases}
 use Rattle.model.specs.Cover.{covers}
 use Rattle.model.specs.Ledger.{above}
 use Rattle.model.proofs.Runs.{above-at, above-not, above-cut}

@@ -1,17 +1,8 @@
 -- A take against the history: how many blocks it answers, and its virgin.
-use Prim.Native.Nat.{ℕ, _+_, _-_, _≤_, _<_}
-use mathlib.Core.Path.{_≡_, refl, sym, ap, _∙_, subst}
-use mathlib.Core.List.{List, [], _∷_, _++_}
-use mathlib.Core.Option.{Option, none, some}
-use mathlib.Core.Logic.{inl, inr}
-use mathlib.Core.Bool.{Bool, true, false, _&&_, true≢false, false≢true}
-use native.Mathlib.Omega.{arith}
-use lib.Dec.{eqb, ltb}
-use lib.ListN.{length, take, drop, length-append, length-reverse, length-take, length-drop}
-use lib.Seq.{take-append-seam}
-use borrow.Author.Tests.{eqb-true, eqb-false, eq-eqb, le-ltb}
-use Rattle.facts.specs.Lists.{isNil, All, total, elem, count}
-use Rattle.facts.proofs.Bools.{by-cases, and-left, and-right, and-false}
+use Rattle.facts.proofs.Prelude.{ℕ, _+_, _-_, _≤_, _<_, arith, Bool, true, false, _&&_, true≢false, false≢true, List, [], _∷_, _++_, inl, inr, Option, none}
+use Rattle.facts.proofs.Prelude.{some, _≡_, refl, sym, ap, _∙_, subst, eqb, ltb, length, take, drop, length-append, length-reverse, length-take, length-drop}
+use Rattle.facts.proofs.Prelude.{take-append-seam, eqb-true, eqb-false, eq-eqb, le-ltb, isNil, All, total, elem, count, by-cases, and-left, and-right}
+use Rattle.facts.proofs.Bools.{and-false}
 use Rattle.words.specs.Host.{badHost}
 use Rattle.classes.specs.declared.Shape.{Shape}
 use Rattle.classes.specs.Shape.{shapeOf}

@@ -1,10 +1,5 @@
 -- The demands hold of the model: every statement of specs/Demands, for every arena and every history.
-use Prim.Native.Nat.{ℕ, _≤_}
-use mathlib.Core.Path.{_≡_}
-use mathlib.Core.Logic.{_⊎_}
-use mathlib.Core.List.{List}
-use mathlib.Core.Bool.{false}
-use lib.Dec.{eqb}
+use Rattle.facts.proofs.Prelude.{ℕ, _≤_, false, List, _⊎_, _≡_, eqb}
 use Rattle.words.specs.Limits.{maxPages}
 use Rattle.classes.specs.Shape.{shapeOf}
 use Rattle.rules.specs.Rules.{Rules}

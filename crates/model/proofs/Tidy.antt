@@ -1,15 +1,6 @@
 -- The hole store along the arena's steps: the total is the holes' sum, no hole is of no pages, both limits hold, and no two holes touch.
 -- Every step of 1 page or more keeps this.
-use Prim.Native.Nat.{ℕ, _+_, _-_, _≤_, _<_}
-use mathlib.Core.Path.{_≡_, refl}
-use mathlib.Core.Bool.{true}
-use mathlib.Core.Logic.{inl}
-use native.Mathlib.Omega.{arith}
-use lib.Dec.{leb, ltb}
-use lib.ListN.{length}
-use borrow.Author.Tests.{leb-true, ltb-true, ltb-false}
-use Rattle.facts.specs.Lists.{All, total}
-use Rattle.facts.proofs.Bools.{by-cases, and-left, and-right}
+use Rattle.facts.proofs.Prelude.{ℕ, _+_, _-_, _≤_, _<_, arith, true, inl, _≡_, refl, leb, ltb, length, leb-true, ltb-true, ltb-false, All, total, by-cases, and-left, and-right}
 use Rattle.model.specs.declared.Hole.{Hole}
 use Rattle.model.specs.HoleStore.{HoleStore, emptyStore, hole, holeAt, holeSlots, holePagesMax, cutFrom, takeAt, holeBefore, holeAfter, hasRoom, insert, accepts}
 use Rattle.model.proofs.HoleLists.{set-total, remove-total, set-length, remove-length, all-set, all-remove, all-at}

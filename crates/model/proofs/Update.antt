@@ -1,11 +1,5 @@
 -- A function changed at one place (`update`).
-use Prim.Native.Nat.{ℕ}
-use mathlib.Core.Path.{_≡_, refl, sym, _∙_, subst, fun-ext}
-use mathlib.Core.Bool.{false}
-use lib.Dec.{eqb}
-use borrow.Author.Tests.{eqb-true, eqb-false, eq-eqb, ne-eqb}
-use Rattle.facts.specs.Lists.{update}
-use Rattle.facts.proofs.Bools.{by-cases}
+use Rattle.facts.proofs.Prelude.{ℕ, false, _≡_, refl, sym, _∙_, subst, fun-ext, eqb, eqb-true, eqb-false, eq-eqb, ne-eqb, update, by-cases}
 
 pub other-way : (c d : ℕ) → eqb c d ≡ false → eqb d c ≡ false
 other-way c d n = ne-eqb d c (λ p. eqb-false c d n (sym p))

@@ -1,14 +1,6 @@
 -- What the code counts: on a good page none is out exactly if as many blocks are free as were carved.
-use Prim.Native.Nat.{ℕ, suc, _+_, _≤_}
-use mathlib.Core.Path.{_≡_, refl, sym, ap, _∙_}
-use mathlib.Core.List.{List, [], _∷_, _++_}
-use mathlib.Core.Bool.{Bool, true, cond}
-use native.Mathlib.Omega.{arith}
-use lib.Dec.{eqb}
-use lib.ListN.{length, length-append}
-use borrow.Author.Tests.{eqb-true, eq-eqb}
-use Rattle.facts.specs.Lists.{every, elem, count}
-use Rattle.facts.proofs.Bools.{by-cases}
+use Rattle.facts.proofs.Prelude.{ℕ, suc, _+_, _≤_, arith, Bool, true, cond, List, [], _∷_, _++_, _≡_, refl, sym, ap}
+use Rattle.facts.proofs.Prelude.{_∙_, eqb, length, length-append, eqb-true, eq-eqb, every, elem, count, by-cases}
 use Rattle.classes.specs.declared.Shape.{Shape}
 use Rattle.classes.specs.way.Sound.{Sound}
 use Rattle.model.specs.Page.{Page, carvedWords, noneOut}

@@ -1,11 +1,7 @@
 -- Where a call goes, by its host word and the class that it names.
 --     goes       the way of a call, with its reason
 --     host-of    a call of a class brings its request's host word
-use Prim.Native.Nat.{ℕ, _+_}
-use mathlib.Core.Bool.{Bool, true, false, cond}
-use mathlib.Core.Option.{Option, none, some, Option·none-ne-some}
-use mathlib.Core.Path.{_≡_, refl, ap}
-use lib.Dec.{ltb}
+use Rattle.facts.proofs.Prelude.{ℕ, _+_, Bool, true, false, cond, Option, none, some, Option·none-ne-some, _≡_, refl, ap, ltb}
 use Rattle.words.specs.Host.{badHost}
 use Rattle.model.specs.Calls as Calls
 use Rattle.model.specs.Calls.{Call, Named, named, names, hostIn, Request, hostOf, Way, turned, straight, toClass, wayTo, wayOf}

@@ -1,15 +1,7 @@
 -- The runs of a class that begin at page q, weighed by whether they are virgin as they come back: what a request does to that weight. With
 -- weight 1 it counts them, with 1 for the virgin ones the clean ones.
-use Prim.Native.Nat.{ℕ, _+_, _-_, _%_}
-use mathlib.Core.Path.{_≡_, refl, ap, _∙_}
-use mathlib.Core.List.{List, [], _∷_}
-use mathlib.Core.Option.{Option, none, some}
-use mathlib.Core.Bool.{Bool, true, false, cond, not, _&&_}
-use native.Mathlib.Omega.{arith}
-use lib.Dec.{eqb}
-use lib.ListN.{length}
-use Rattle.facts.specs.Lists.{total}
-use Rattle.facts.proofs.Bools.{by-cases, and-no}
+use Rattle.facts.proofs.Prelude.{ℕ, _+_, _-_, _%_, arith, Bool, true, false, cond, not, _&&_, List, [], _∷_}
+use Rattle.facts.proofs.Prelude.{Option, none, some, _≡_, refl, ap, _∙_, eqb, length, total, by-cases, and-no}
 use Rattle.words.specs.Host.{discardZeroed}
 use Rattle.classes.specs.declared.Shape.{Shape}
 use Rattle.rules.specs.declared.Limits.{Limits}

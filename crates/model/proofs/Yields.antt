@@ -1,16 +1,7 @@
 -- A listed page always yields a block, so a take is empty only if the arena was asked and gave none.
-use Prim.Native.Nat.{ℕ, _-_, _≤_}
-use mathlib.Core.Path.{_≡_, refl, sym, ap, _∙_, subst}
-use mathlib.Core.List.{List, [], _∷_, map}
-use mathlib.Core.Option.{Option, none, some, Option·none-ne-some, Option·some-ne-none, Option·some-injective}
-use mathlib.Core.Bool.{Bool, true, false, cond, not, _&&_, false≢true, true≢false}
-use native.Mathlib.Omega.{arith}
-use lib.Dec.{eqb, ltb}
-use lib.ListN.{length, length-append, length-reverse, length-take}
-use lib.Seq.{take-append-seam}
-use borrow.Author.Tests.{ltb-true, eqb-true, ne-eqb, lt-ltb, not-true, not-false}
-use Rattle.facts.specs.Lists.{isNil, every, All, elem, distinct}
-use Rattle.facts.proofs.Bools.{by-cases, and-left, and-right}
+use Rattle.facts.proofs.Prelude.{ℕ, _-_, _≤_, arith, Bool, true, false, cond, not, _&&_, false≢true, true≢false, List, [], _∷_, map, Option, none, some, Option·none-ne-some}
+use Rattle.facts.proofs.Prelude.{Option·some-ne-none, Option·some-injective, _≡_, refl, sym, ap, _∙_, subst, eqb, ltb, length, length-append, length-reverse, length-take}
+use Rattle.facts.proofs.Prelude.{take-append-seam, ltb-true, eqb-true, ne-eqb, lt-ltb, not-true, not-false, isNil, every, All, elem, distinct, by-cases, and-left, and-right}
 use Rattle.words.specs.Word.{countOf, pageOf}
 use Rattle.classes.specs.declared.Shape.{Shape}
 use Rattle.classes.specs.Shape.{shapeOf}

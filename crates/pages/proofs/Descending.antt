@@ -3,17 +3,8 @@
 --     length-descending, count-descending, descending-below
 --     every-append, every-reverse, every-mono
 --     small-counts   blocks are small where none above is counted
-use Prim.Native.Nat.{ℕ, zero, suc, _+_, _-_, _≤_, _<_}
-use native.Mathlib.Omega.{arith}
-use native.Mathlib.Nat.{add-zero}
-use mathlib.Core.Bool.{Bool, true, false, cond}
-use mathlib.Core.List.{List, [], _∷_, _++_, reverse, reverseAux}
-use mathlib.Core.Path.{_≡_, refl, ap}
-use lib.Dec.{eqb, ltb}
-use lib.ListN.{length}
-use borrow.Author.Tests.{lt-ltb, le-ltb, ltb-true, ltb-false, eq-eqb, eqb-true, eqb-false}
-use Rattle.facts.specs.Lists.{every, count}
-use Rattle.facts.proofs.Bools.{by-cases, and-left, and-right}
+use Rattle.facts.proofs.Prelude.{ℕ, zero, suc, _+_, _-_, _≤_, _<_, arith, add-zero, Bool, true, false, cond, List, [], _∷_, _++_, reverse, reverseAux, _≡_, refl, ap}
+use Rattle.facts.proofs.Prelude.{eqb, ltb, length, lt-ltb, le-ltb, ltb-true, ltb-false, eq-eqb, eqb-true, eqb-false, every, count, by-cases, and-left, and-right}
 use Rattle.words.specs.Host.{digit}
 use Rattle.pages.specs.Stack.{descending}
 

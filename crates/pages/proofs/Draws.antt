@@ -3,14 +3,7 @@
 --     latest-below      they are blocks of the class
 --     draw-changes      only FREE, CARVED and out bits are changed
 --     draw-free, draw-carved
-use Prim.Native.Nat.{ℕ, _+_, _-_, _≤_, min}
-use native.Mathlib.Omega.{arith}
-use mathlib.Core.Bool.{Bool, true}
-use mathlib.Core.List.{List, reverse}
-use mathlib.Core.Path.{_≡_, refl}
-use lib.Dec.{ltb, leb}
-use lib.ListN.{length, length-append, length-reverse}
-use Rattle.facts.specs.Lists.{every}
+use Rattle.facts.proofs.Prelude.{ℕ, _+_, _-_, _≤_, min, arith, Bool, true, List, reverse, _≡_, refl, ltb, leb, length, length-append, length-reverse, every}
 use Rattle.classes.specs.declared.Shape.{Shape}
 use Rattle.fields.specs.Field.{Field, page, out, free, carved, get, put, words}
 use Rattle.fields.proofs.Laws.{get-put-same, get-put-other, length-put}

@@ -1,16 +1,8 @@
 -- What each step on a class's pages may change: everything but the fields at which a test fails is as it was.
 --     changes-link .. changes-new    the steps
 --     back-free                      blocks that come back leave FREE until they are counted
-use Rattle.facts.specs.Lists.{every}
+use Rattle.facts.proofs.Prelude.{ℕ, zero, suc, _+_, _*_, _/_, _≤_, _<_, arith, add-zero, Bool, true, false, cond, List, _≡_, refl, ap, _∙_, ltb, length, every}
 use Rattle.model.specs.Page.{isMedium}
-use Prim.Native.Nat.{ℕ, zero, suc, _+_, _*_, _/_, _≤_, _<_}
-use native.Mathlib.Omega.{arith}
-use native.Mathlib.Nat.{add-zero}
-use mathlib.Core.Bool.{Bool, true, false, cond}
-use mathlib.Core.List.{List}
-use mathlib.Core.Path.{_≡_, refl, ap, _∙_}
-use lib.Dec.{ltb}
-use lib.ListN.{length}
 use Rattle.classes.specs.declared.Shape.{Shape}
 use Rattle.fields.specs.Field.{Field, class, page, slot, mark, out, partial, next, prev, first, free, carved, listed, virgin, get, put}
 use Rattle.fields.specs.Clear.{clearOut, clearMarks}

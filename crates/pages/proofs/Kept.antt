@@ -2,15 +2,7 @@
 --     Owns          owners, first pages and the frontier are as they were; whole-kept: so are the runs that are whole
 --     Body          the counts, flag, stack, out bits and marks of page q are as they were; more-kept, latest-kept: so is what it gives
 --     changes-owns, changes-body    a change of other words
-use Prim.Native.Nat.{ℕ, _+_, _≤_}
-use native.Mathlib.Omega.{arith}
-use mathlib.Core.Bool.{Bool, true, false}
-use mathlib.Core.List.{List}
-use mathlib.Core.Path.{_≡_, refl}
-use lib.Dec.{ltb}
-use borrow.Author.Tests.{lt-ltb}
-use Rattle.facts.specs.Lists.{below}
-use Rattle.facts.proofs.Lists.{every-same}
+use Rattle.facts.proofs.Prelude.{ℕ, _+_, _≤_, arith, Bool, true, false, List, _≡_, refl, ltb, lt-ltb, below, every-same}
 use Rattle.classes.specs.declared.Shape.{Shape}
 use Rattle.fields.specs.Field.{Field, arena, page, mark, slot, out, frontier, owner, first, free, carved, virgin, get}
 use Rattle.fields.proofs.Changes.{Changes}

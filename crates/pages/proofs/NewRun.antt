@@ -2,14 +2,7 @@
 --     new-names      every page of it names its first
 --     bare-listed    it is in no list
 --     bare-outs      no block of it is out; bare-marks, and none is marked
-use Prim.Native.Nat.{ℕ, _+_, _-_, _*_, _≤_, _<_}
-use native.Mathlib.Omega.{arith}
-use mathlib.Core.Bool.{Bool, true, not, _&&_}
-use mathlib.Core.List.{List}
-use mathlib.Core.Path.{_≡_, refl, _∙_}
-use lib.Dec.{eqb, ltb, leb}
-use lib.ListN.{length}
-use borrow.Author.Tests.{lt-ltb, ne-eqb}
+use Rattle.facts.proofs.Prelude.{ℕ, _+_, _-_, _*_, _≤_, _<_, arith, Bool, true, not, _&&_, List, _≡_, refl, _∙_, eqb, ltb, leb, length, lt-ltb, ne-eqb}
 use Rattle.classes.specs.declared.Shape.{Shape}
 use Rattle.fields.specs.Field.{Field, page, mark, out, first, listed, region, off, get, words}
 use Rattle.fields.specs.Clear.{clearOut, clearMarks}

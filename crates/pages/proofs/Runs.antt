@@ -1,16 +1,8 @@
 -- A run that is whole, page by page.
 --     Whole                                 what `whole` says; whole-says, whole-of: from the test, and back
 --     whole-owner, whole-in, whole-below    of its first page
-use Prim.Native.Nat.{ℕ, suc, _+_, _-_, _≤_, _<_}
-use native.Mathlib.Omega.{arith}
-use mathlib.Core.Bool.{true, _&&_}
-use mathlib.Core.List.{List}
-use mathlib.Core.Path.{_≡_, refl}
-use lib.Dec.{eqb, ltb, leb}
-use borrow.Author.Tests.{eq-eqb, eqb-true, leb-true, le-leb, lt-ltb}
-use Rattle.facts.specs.Lists.{every, below}
-use Rattle.facts.proofs.Bools.{and-left, and-right}
-use Rattle.facts.proofs.Lists.{every-at, every-of}
+use Rattle.facts.proofs.Prelude.{ℕ, suc, _+_, _-_, _≤_, _<_, arith, true, _&&_, List, _≡_, refl, eqb, ltb, leb, eq-eqb}
+use Rattle.facts.proofs.Prelude.{eqb-true, leb-true, le-leb, lt-ltb, every, below, and-left, and-right, every-at, every-of}
 use Rattle.classes.specs.declared.Shape.{Shape}
 use Rattle.classes.specs.way.Sound.{Sound}
 use Rattle.fields.specs.Field.{arena, page, owner, first, frontier, get}

@@ -2,17 +2,8 @@
 --     length-set-outs, set-outs-append
 --     set-outs-changes, set-outs-kept    nothing else is changed
 --     set-outs-get, set-outs-at          what is read of a block's bit
-use Prim.Native.Nat.{ℕ, _+_, _≤_}
-use native.Mathlib.Omega.{arith}
-use native.Mathlib.Nat.{zero-add}
-use mathlib.Core.Bool.{Bool, true, false, cond}
-use mathlib.Core.List.{List, [], _∷_, _++_}
-use mathlib.Core.Path.{_≡_, refl, sym, ap, _∙_}
-use lib.Dec.{eqb, ltb, leb}
-use lib.ListN.{length}
-use borrow.Author.Tests.{lt-ltb, ltb-true, ne-eqb, eqb-true, eqb-false}
-use Rattle.facts.specs.Lists.{every, count}
-use Rattle.facts.proofs.Bools.{by-cases, and-left, and-right}
+use Rattle.facts.proofs.Prelude.{ℕ, _+_, _≤_, arith, zero-add, Bool, true, false, cond, List, [], _∷_, _++_, _≡_, refl, sym, ap, _∙_, eqb}
+use Rattle.facts.proofs.Prelude.{ltb, leb, length, lt-ltb, ltb-true, ne-eqb, eqb-true, eqb-false, every, count, by-cases, and-left, and-right}
 use Rattle.classes.specs.declared.Shape.{Shape}
 use Rattle.fields.specs.Field.{Field, region, out, get, put, ok, words}
 use Rattle.fields.proofs.Laws.{get-put-same, get-put-other, length-put}

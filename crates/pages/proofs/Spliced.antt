@@ -3,14 +3,8 @@
 --     spliced-none      no words
 --     spliced-one       one word
 --     spliced-twice     words right before those
-use Prim.Native.Nat.{ℕ, _+_, _-_, _≤_, _<_}
-use native.Mathlib.Omega.{arith}
-use native.Mathlib.Nat.{add-zero}
-use native.Mathlib.Numerals.{add-one}
-use mathlib.Core.List.{List, [], _∷_, _++_, append-assoc}
-use mathlib.Core.Path.{_≡_, sym, ap, _∙_}
-use lib.ListN.{length, take, drop, set, length-append, length-take, length-drop, take-append-drop}
-use lib.Seq.{length-take-le, take-append-le, drop-at, take-take, set-split}
+use Rattle.facts.proofs.Prelude.{ℕ, _+_, _-_, _≤_, _<_, arith, add-zero, add-one, List, [], _∷_, _++_, append-assoc, _≡_, sym, ap, _∙_, length, take, drop}
+use Rattle.facts.proofs.Prelude.{set, length-append, length-take, length-drop, take-append-drop, length-take-le, take-append-le, drop-at, take-take, set-split}
 use Rattle.pages.specs.Stack.{spliced}
 
 pub length-spliced : (l : List ℕ) (a : ℕ) (ws : List ℕ) → a + length ws ≤ length l → length (spliced l a ws) ≡ length l

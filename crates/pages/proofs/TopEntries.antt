@@ -4,14 +4,8 @@
 --     popped-more           one more popped, in the order of a list that has the latest first
 --     every-top-entries     what holds of them all holds of each
 --     top-entries-kept      where the entries below the top are as they were
-use Prim.Native.Nat.{ℕ, zero, suc, _+_, _-_, _≤_, _<_, min}
-use native.Mathlib.Omega.{arith}
-use mathlib.Core.Bool.{Bool, true}
-use mathlib.Core.List.{List, [], _∷_, _++_, reverse, reverse-append}
-use mathlib.Core.Path.{_≡_, refl, ap, _∙_}
-use lib.ListN.{length}
-use Rattle.facts.specs.Lists.{every}
-use Rattle.facts.proofs.Bools.{and-left, and-right}
+use Rattle.facts.proofs.Prelude.{ℕ, zero, suc, _+_, _-_, _≤_, _<_, min, arith, Bool, true, List, [], _∷_, _++_}
+use Rattle.facts.proofs.Prelude.{reverse, reverse-append, _≡_, refl, ap, _∙_, length, every, and-left, and-right}
 use Rattle.fields.specs.Field.{slot, get}
 use Rattle.pages.specs.Stack.{topEntries}
 

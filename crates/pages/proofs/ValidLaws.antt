@@ -1,11 +1,5 @@
 -- What number 13's test of a page's own words tells, and when it passes.
-use Prim.Native.Nat.{ℕ, _+_, _≤_}
-use mathlib.Core.Bool.{true, _&&_}
-use mathlib.Core.List.{List}
-use mathlib.Core.Path.{_≡_}
-use lib.Dec.{leb}
-use borrow.Author.Tests.{le-leb, leb-true}
-use Rattle.facts.proofs.Bools.{and-left, and-right}
+use Rattle.facts.proofs.Prelude.{ℕ, _+_, _≤_, true, _&&_, List, _≡_, leb, le-leb, leb-true, and-left, and-right}
 use Rattle.classes.specs.declared.Shape.{Shape}
 use Rattle.fields.specs.Field.{page, free, carved, virgin, get}
 use Rattle.pages.specs.Valid.{headerValid}

@@ -1,16 +1,6 @@
 -- The steps of `add_entry` and `add_takes`.
-use Prim.Native.Nat.{ℕ, _+_, _*_, _≤_, _<_}
-use mathlib.Core.Path.{_≡_, sym, ap, _∙_}
-use mathlib.Core.List.{List, [], _∷_, _++_}
-use mathlib.Core.Bool.{cond}
-use native.Mathlib.Omega.{arith}
-use native.Mathlib.Numerals.{add-one}
-use lib.Dec.{eqb, leb}
-use lib.ListN.{length, length-set, getD, set, take}
-use lib.Seq.{take-suc, take-all, length-take-le, getD-set-same, getD-set-other}
-use borrow.Author.Tests.{leb-true, eqb-true, eqb-false}
-use Rattle.facts.proofs.Bools.{by-cases}
-use Rattle.facts.proofs.Lists.{every-get}
+use Rattle.facts.proofs.Prelude.{ℕ, _+_, _*_, _≤_, _<_, arith, add-one, cond, List, [], _∷_, _++_, _≡_, sym, ap, _∙_, eqb, leb, length, length-set, getD, set}
+use Rattle.facts.proofs.Prelude.{take, take-suc, take-all, length-take-le, getD-set-same, getD-set-other, leb-true, eqb-true, eqb-false, by-cases, every-get}
 use Rattle.classes.specs.Sizes.{maxMediumSize}
 use Rattle.plan.specs.Plan.{classCount, takesMax, classOf, takesOf}
 use Rattle.plan.specs.Code.{Fine, Sums, Zeros, Summed, AddPre, Added}

@@ -1,19 +1,10 @@
 -- Every plan that is not refused can be carried out: one take after the other.
-use Prim.Native.Nat.{ℕ, zero, suc, _+_, _-_, _<_}
-use mathlib.Core.Path.{_≡_, refl}
-use mathlib.Core.List.{List, [], _∷_}
-use mathlib.Core.Option.{some}
-use mathlib.Core.Bool.{true, false, cond}
-use native.Mathlib.Omega.{arith}
-use lib.Dec.{eqb, leb, ltb}
-use lib.ListN.{length, replicate}
-use borrow.Author.Tests.{leb-true, lt-ltb, ltb-true, ltb-false}
+use Rattle.facts.proofs.Prelude.{ℕ, zero, suc, _+_, _-_, _<_, arith, true, false, cond, List, [], _∷_, some, _≡_, refl, eqb, leb, ltb}
+use Rattle.facts.proofs.Prelude.{length, replicate, leb-true, lt-ltb, ltb-true, ltb-false, All, every, by-cases, and-left, and-right}
 use Rattle.classes.proofs.Shapes.{shape-sound}
-use Rattle.facts.specs.Lists.{All, every}
 use Rattle.model.specs.Calls as Calls
 use Rattle.model.specs.Calls.{Call, names}
 use Rattle.model.specs.History.{callsOf}
-use Rattle.facts.proofs.Bools.{by-cases, and-left, and-right}
 use Rattle.classes.specs.Sizes.{maxMediumSize}
 use Rattle.plan.specs.Plan.{classCount, classOf, badPlan}
 use Rattle.plan.specs.Fits.{TakePre, Granted, small, medium, Carries, Carried}

@@ -1,9 +1,7 @@
 -- The class of a size that is not too large is a class; what the lookup's three answers say of it.
-use Prim.Native.Nat.{ℕ, _+_, _^_, _≤_, _<_}
-use mathlib.Core.Path.{_≡_, sym, ap, _∙_, subst}
+use Rattle.facts.proofs.Prelude.{ℕ, _+_, _^_, _≤_, _<_, arith, _≡_, sym, ap, _∙_, subst}
 use mathlib.Core.Logic.{by-cases}
 use native.Mathlib.Decide.{decLe}
-use native.Mathlib.Omega.{arith}
 use Rattle.classes.specs.declared.Sized.{Sized}
 use Rattle.classes.specs.declared.Sized.the-variants.{Small, Medium, TooLarge}
 use Rattle.classes.specs.Sizes.{mediumSizes, maxSmallSize, maxMediumSize}

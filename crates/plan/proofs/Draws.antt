@@ -1,15 +1,8 @@
 -- A granted commit where no hole is stored: at the frontier, if the arena suffices.
-use Prim.Native.Nat.{ℕ, _+_, _≤_, _<_}
-use mathlib.Core.Path.{_≡_, refl, sym, ap, _∙_}
-use mathlib.Core.List.{[]}
-use mathlib.Core.Option.{none, some}
-use mathlib.Core.Bool.{Bool, true, false, true≢false}
-use lib.Dec.{leb}
-use borrow.Author.Tests.{leb-true, leb-false}
+use Rattle.facts.proofs.Prelude.{ℕ, _+_, _≤_, _<_, Bool, true, false, true≢false, [], none, some, _≡_, refl, sym, ap, _∙_, leb, leb-true, leb-false, by-cases}
 use Rattle.words.specs.Host.{reservationGranted, commitGranted}
 use Rattle.model.specs.HoleStore.{leastFit}
 use Rattle.model.specs.Arena.{Arena, Status, unasked, ready, disabled, Given, withStatus, drawFrom, draw, grant, commitReady, commitAs, commit}
-use Rattle.facts.proofs.Bools.{by-cases}
 
 -- nothing was given back, and the reservation was not refused
 abbrev pub usable : Status → Bool

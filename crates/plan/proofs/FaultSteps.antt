@@ -1,17 +1,6 @@
 -- The steps of number 14's functions.
-use Prim.Native.Nat.{ℕ, _+_, _≤_, _<_}
-use mathlib.Core.Path.{_≡_, refl, sym, _∙_}
-use mathlib.Core.List.{List}
-use mathlib.Core.Bool.{Bool, true, false, not, _&&_}
-use native.Mathlib.Omega.{arith}
-use native.Mathlib.Numerals.{add-one}
-use lib.Dec.{eqb, leb, ltb}
-use lib.ListN.{length, getD, drop}
-use lib.Seq.{drop-cons}
-use borrow.Author.Tests.{ltb-false, eqb-true, not-false, le-leb, lt-leb, lt-ltb, le-ltb, eq-eqb, ne-eqb}
-use Rattle.facts.specs.Lists.{every}
-use Rattle.facts.proofs.Bools.{and-left, and-right, or-left, or-right, nor-left, nor-right}
-use Rattle.facts.proofs.Lists.{drop-past}
+use Rattle.facts.proofs.Prelude.{ℕ, _+_, _≤_, _<_, arith, add-one, Bool, true, false, not, _&&_, List, _≡_, refl, sym, _∙_, eqb, leb, ltb, length, getD, drop, drop-cons, ltb-false}
+use Rattle.facts.proofs.Prelude.{eqb-true, not-false, le-leb, lt-leb, lt-ltb, le-ltb, eq-eqb, ne-eqb, every, and-left, and-right, or-left, or-right, nor-left, nor-right, drop-past}
 use Rattle.classes.specs.Sizes.{maxMediumSize}
 use Rattle.plan.specs.Plan.{entriesMax, takesMax, badPlan}
 use Rattle.plan.specs.Code.{Fine}

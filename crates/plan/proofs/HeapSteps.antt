@@ -1,14 +1,6 @@
 -- A heap from which nothing was released, t c takes of each class c done: one more take.
-use Prim.Native.Nat.{ℕ, suc, _+_, _*_, _≤_, _<_}
-use mathlib.Core.Path.{_≡_, refl, sym, subst}
-use mathlib.Core.List.{List, []}
-use mathlib.Core.Option.{Option, none, some}
-use mathlib.Core.Bool.{true, false}
-use native.Mathlib.Omega.{arith}
-use lib.Dec.{eqb}
-use borrow.Author.Tests.{eqb-true, lt-ltb, le-ltb}
-use Rattle.facts.specs.Lists.{isNil, update}
-use Rattle.facts.proofs.Bools.{by-cases}
+use Rattle.facts.proofs.Prelude.{ℕ, suc, _+_, _*_, _≤_, _<_, arith, true, false, List, [], Option, none, some}
+use Rattle.facts.proofs.Prelude.{_≡_, refl, sym, subst, eqb, eqb-true, lt-ltb, le-ltb, isNil, update, by-cases}
 use Rattle.words.specs.Host.{hostMax, reservationGranted, commitGranted}
 use Rattle.classes.specs.Shape.{shapeOf}
 use Rattle.classes.proofs.Shapes.{shape-sound}

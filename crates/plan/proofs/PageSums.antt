@@ -1,13 +1,5 @@
 -- The pages of all classes: one more take, and more takes of each.
-use Prim.Native.Nat.{ℕ, zero, suc, _+_, _≤_, _<_}
-use mathlib.Core.Path.{_≡_, refl}
-use mathlib.Core.Logic.{inl, inr}
-use mathlib.Core.List.{List, [], _∷_}
-use native.Mathlib.Omega.{arith}
-use lib.Dec.{ltb}
-use borrow.Author.Tests.{ltb-true, ltb-false, ne-eqb}
-use Rattle.facts.specs.Lists.{total, below, update}
-use Rattle.facts.proofs.Bools.{by-cases}
+use Rattle.facts.proofs.Prelude.{ℕ, zero, suc, _+_, _≤_, _<_, arith, List, [], _∷_, inl, inr, _≡_, refl, ltb, ltb-true, ltb-false, ne-eqb, total, below, update, by-cases}
 use Rattle.model.proofs.Update.{update-same, update-other}
 use Rattle.plan.specs.Plan.{classCount, pagesFor, pagesOf}
 use Rattle.plan.proofs.Rounding.{Moves, pages-more, pages-grow, pages-at, serves}

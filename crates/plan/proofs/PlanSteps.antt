@@ -1,11 +1,5 @@
 -- The steps of `plan`.
-use Prim.Native.Nat.{ℕ, zero, suc, _+_, _<_}
-use mathlib.Core.Path.{_≡_, refl, sym, ap, _∙_}
-use mathlib.Core.List.{List}
-use mathlib.Core.Bool.{Bool, true, false}
-use native.Mathlib.Omega.{arith}
-use lib.ListN.{replicate, getD}
-use Rattle.facts.specs.Lists.{total, below}
+use Rattle.facts.proofs.Prelude.{ℕ, zero, suc, _+_, _<_, arith, Bool, true, false, List, _≡_, refl, sym, ap, _∙_, replicate, getD, total, below}
 use Rattle.plan.specs.Plan.{classCount, pagesFor, pagesOf, takesOf, planTotal, badPlan}
 use Rattle.plan.specs.Code.{Fine, Zeros, Summed, PlanEnds}
 use Rattle.plan.proofs.FaultSteps.{fine}

@@ -1,17 +1,10 @@
 -- Rounding up, and the runs that so many takes need.
-use Prim.Native.Nat.{ℕ, zero, suc, _+_, _-_, _*_, _≤_, _<_}
-use mathlib.Core.Path.{_≡_, refl, sym, _∙_}
-use mathlib.Core.Logic.{_⊎_, inl, inr}
-use mathlib.Core.Bool.{true, false}
-use native.Mathlib.Omega.{arith}
-use native.Mathlib.Nat.{div-eq-of-lt-le, mul-le-mul}
-use lib.Dec.{ltb}
-use borrow.Author.Tests.{lt-ltb, le-ltb}
+use Rattle.facts.proofs.Prelude.{ℕ, zero, suc, _+_, _-_, _*_, _≤_, _<_, arith, div-eq-of-lt-le, mul-le-mul}
+use Rattle.facts.proofs.Prelude.{true, false, _⊎_, inl, inr, _≡_, refl, sym, _∙_, ltb, lt-ltb, le-ltb, by-cases}
 use Rattle.classes.specs.declared.Shape.{Shape}
 use Rattle.classes.specs.Shape.{shapeOf, smallShape, mediumShape}
 use Rattle.classes.specs.way.Sound.{Sound}
 use Rattle.classes.proofs.Shapes.{shape-sound}
-use Rattle.facts.proofs.Bools.{by-cases}
 use Rattle.plan.specs.Plan.{ceil, pagesFor}
 
 -- t takes and u more fill r runs of d takes

@@ -1,16 +1,8 @@
 -- A class from which nothing was released: at most one partial page, no empty or cold one; how a take moves it.
-use Prim.Native.Nat.{ℕ, zero, suc, _+_, _-_, _*_, _≤_, _<_}
-use mathlib.Core.Path.{_≡_, refl, subst}
-use mathlib.Core.List.{List, [], _∷_}
-use mathlib.Core.Option.{Option, none, some}
-use mathlib.Core.Bool.{Bool, true, false, not, _||_, false≢true}
-use native.Mathlib.Omega.{arith}
-use lib.Dec.{ltb}
-use lib.ListN.{length, length-drop}
-use borrow.Author.Tests.{ne-eqb, lt-ltb, le-ltb}
+use Rattle.facts.proofs.Prelude.{ℕ, zero, suc, _+_, _-_, _*_, _≤_, _<_, arith, Bool, true, false, not, _||_, false≢true, List, [], _∷_}
+use Rattle.facts.proofs.Prelude.{Option, none, some, _≡_, refl, subst, ltb, length, length-drop, ne-eqb, lt-ltb, le-ltb, All, isNil}
 use Rattle.classes.specs.declared.Shape.{Shape}
 use Rattle.classes.specs.way.Sound.{Sound}
-use Rattle.facts.specs.Lists.{All, isNil}
 use Rattle.rules.specs.declared.Limits.{Limits}
 use Rattle.model.specs.Calls as Calls
 use Rattle.model.specs.Calls.{blocksOf}

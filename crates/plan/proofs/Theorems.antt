@@ -1,16 +1,6 @@
 -- A plan's total is within the arena exactly if all its takes succeed; one more take; the order of entries (document 02, A.1).
-use Prim.Native.Nat.{ℕ, _+_, _≤_}
-use mathlib.Core.Path.{_≡_, sym, ap, _∙_, subst, fun-ext}
-use mathlib.Core.List.{List, [], _∷_, _++_, map}
-use mathlib.Core.Logic.{_↔_}
-use mathlib.Core.Option.{some}
-use mathlib.Core.Bool.{true≢false}
-use native.Mathlib.Omega.{arith}
-use lib.Dec.{eqb}
-use lib.ListN.{length}
-use borrow.Author.Tests.{eqb-true, eq-eqb}
-use Rattle.facts.specs.Lists.{All}
-use Rattle.facts.proofs.Bools.{by-cases}
+use Rattle.facts.proofs.Prelude.{ℕ, _+_, _≤_, arith, true≢false, List, [], _∷_, _++_, map, _↔_, some, _≡_}
+use Rattle.facts.proofs.Prelude.{sym, ap, _∙_, subst, fun-ext, eqb, length, eqb-true, eq-eqb, All, by-cases}
 use Rattle.rules.specs.Rules.{Rules}
 use Rattle.model.specs.Calls as Calls
 use Rattle.model.specs.Calls.{Call, names}

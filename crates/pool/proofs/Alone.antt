@@ -1,15 +1,6 @@
 -- A class's answers and the runs that it was given determine each other: a class of the pool by itself is its requests and what it is given.
-use Prim.Native.Nat.{ℕ, zero, suc, _+_, _≤_, min}
-use mathlib.Core.Path.{_≡_, refl, sym, ap, _∙_, subst, ap₂}
-use mathlib.Core.List.{List, [], _∷_, map, reverse, reverseAux, head-eq-of-cons-eq, tail-eq-of-cons-eq}
-use mathlib.Core.Option.{Option, none, some}
-use mathlib.Core.Bool.{Bool, true, false, cond}
-use native.Mathlib.Omega.{arith}
-use lib.Dec.{eqb}
-use lib.ListN.{length, take, length-map, length-reverse}
-use borrow.Author.Tests.{eqb-true, le-ltb}
-use Rattle.facts.specs.Lists.{below, every}
-use Rattle.facts.proofs.Bools.{by-cases}
+use Rattle.facts.proofs.Prelude.{ℕ, zero, suc, _+_, _≤_, min, arith, Bool, true, false, cond, List, [], _∷_, map, reverse, reverseAux, head-eq-of-cons-eq, tail-eq-of-cons-eq}
+use Rattle.facts.proofs.Prelude.{Option, none, some, _≡_, refl, sym, ap, _∙_, subst, ap₂, eqb, length, take, length-map, length-reverse, eqb-true, le-ltb, below, every, by-cases}
 use Rattle.classes.specs.declared.Shape.{Shape}
 use Rattle.classes.specs.Shape.{shapeOf}
 use Rattle.classes.specs.way.Sound.{Sound}

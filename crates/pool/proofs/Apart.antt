@@ -1,12 +1,7 @@
 -- Grants not yet freed share no byte, with each other and with pages held by hand.
 --     out-apart            two blocks out of the heap, granted or in stock, do not begin at one granule
 --     out-low, out-word    such a block lies in the arena, and its word is that of its class's kind
-use Prim.Native.Nat.{ℕ, _*_, _/_, _≤_, _<_}
-use mathlib.Core.Path.{_≡_, sym, ap, _∙_, subst}
-use mathlib.Core.List.{List, []}
-use mathlib.Core.Bool.{Bool, false}
-use native.Mathlib.Omega.{arith}
-use Rattle.facts.specs.Lists.{total}
+use Rattle.facts.proofs.Prelude.{ℕ, _*_, _/_, _≤_, _<_, arith, Bool, false, List, [], _≡_, sym, ap, _∙_, subst, total}
 use Rattle.words.specs.Limits.{maxPages}
 use Rattle.words.specs.Word.{granuleOf, kindOf, blockWord}
 use Rattle.classes.specs.Shape.{shapeOf}

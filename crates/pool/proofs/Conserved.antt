@@ -1,15 +1,6 @@
 -- A block out of the heap is granted or in stock, and each of these once; what an alloc and a trim answer, and trims that empty a stock.
-use Prim.Native.Nat.{ℕ, zero, suc, _+_, _≤_}
-use mathlib.Core.Path.{_≡_, refl, sym, ap, _∙_, subst}
-use mathlib.Core.List.{List, [], _∷_, _++_, reverse}
-use mathlib.Core.Bool.{Bool, true, false}
-use mathlib.Core.Logic.{_↔_, inl, inr}
-use native.Mathlib.Omega.{arith}
-use lib.Dec.{ltb}
-use lib.ListN.{length, drop, replicate}
-use borrow.Author.Tests.{eq-eqb}
-use Rattle.facts.specs.Lists.{count, distinct, elem, total}
-use Rattle.facts.proofs.Bools.{by-cases}
+use Rattle.facts.proofs.Prelude.{ℕ, zero, suc, _+_, _≤_, arith, Bool, true, false, List, [], _∷_, _++_, reverse, _↔_, inl, inr, _≡_}
+use Rattle.facts.proofs.Prelude.{refl, sym, ap, _∙_, subst, ltb, length, drop, replicate, eq-eqb, count, distinct, elem, total, by-cases}
 use Rattle.words.specs.Limits.{maxPages}
 use Rattle.words.specs.Host.{badHost}
 use Rattle.classes.specs.Shape.{shapeOf, classCount}

@@ -1,8 +1,6 @@
 -- The pool by example, computed: two blocks are granted and one is freed; a second free of it is refused, and so are a block that is in stock and
 -- was never granted, a granted one under another class, one that is none, one of another kind; the block freed last is granted next; trims empty the stock.
-use Prim.Native.Nat.{_+_, _^_}
-use mathlib.Core.Path.{_≡_, refl}
-use mathlib.Core.List.{List, [], _∷_, map}
+use Rattle.facts.proofs.Prelude.{_+_, _^_, List, [], _∷_, map, _≡_, refl}
 use Rattle.classes.specs.Sizes.{smallSizes, mediumSizes}
 use Rattle.classes.specs.Shape.{smallShape, mediumShape, shapeOf}
 use Rattle.rules.specs.Rules.{plainRules}

@@ -1,16 +1,6 @@
 -- When a free is carried out, when an alloc answers none, and that a refusal changes nothing.
-use Prim.Native.Nat.{ℕ, _+_, _≤_}
-use mathlib.Core.Path.{_≡_, refl, sym, ap, _∙_}
-use mathlib.Core.List.{List, [], _∷_, reverse, reverse-reverse}
-use mathlib.Core.Option.{Option, none, some}
-use mathlib.Core.Bool.{Bool, true, false, true≢false}
-use mathlib.Core.Logic.{_↔_}
-use native.Mathlib.Omega.{arith}
-use lib.Dec.{ltb}
-use lib.ListN.{length}
-use borrow.Author.Tests.{eq-eqb, le-ltb}
-use Rattle.facts.specs.Lists.{All, isNil, total, count}
-use Rattle.facts.proofs.Bools.{by-cases}
+use Rattle.facts.proofs.Prelude.{ℕ, _+_, _≤_, arith, Bool, true, false, true≢false, List, [], _∷_, reverse, reverse-reverse, _↔_, Option}
+use Rattle.facts.proofs.Prelude.{none, some, _≡_, refl, sym, ap, _∙_, ltb, length, eq-eqb, le-ltb, All, isNil, total, count, by-cases}
 use Rattle.words.specs.Limits.{maxPages}
 use Rattle.words.specs.Word.{kindOf}
 use Rattle.words.specs.Host.{badHost}

@@ -1,13 +1,6 @@
 -- What the heap answers to the calls that the pool makes: none is refused, a take brings at most 64 blocks, a release none.
-use Prim.Native.Nat.{ℕ, _-_, _≤_}
-use mathlib.Core.Path.{_≡_, refl}
-use mathlib.Core.List.{List, [], _∷_}
-use mathlib.Core.Option.{Option, none, some}
-use mathlib.Core.Bool.{Bool, true, false, cond, false≢true}
-use lib.Dec.{ltb}
-use borrow.Author.Tests.{le-ltb}
-use Rattle.facts.specs.Lists.{every, isSome}
-use Rattle.facts.proofs.Bools.{by-cases}
+use Rattle.facts.proofs.Prelude.{ℕ, _-_, _≤_, arith, Bool, true, false, cond, false≢true, List, [], _∷_, Option, none, some}
+use Rattle.facts.proofs.Prelude.{_≡_, refl, ltb, length, drop, length-append, take-append-seam, le-ltb, every, isSome, by-cases}
 use Rattle.words.specs.Host.{badHost}
 use Rattle.classes.specs.declared.Shape.{Shape}
 use Rattle.classes.specs.Shape.{shapeOf, classCount}
@@ -16,9 +9,6 @@ use Rattle.model.specs.Calls as Calls
 use Rattle.model.specs.Calls.{Answer, hostIn, wayOf, blocksOf, isRefused, take, giveBack}
 use Rattle.classes.specs.way.Sound.{Sound}
 use Rattle.model.specs.Page.{Page, isOut, carve, reused}
-use native.Mathlib.Omega.{arith}
-use lib.ListN.{length, drop, length-append}
-use lib.Seq.{take-append-seam}
 use Rattle.model.specs.Class.{Class, Cold, Ask, Filled, fillFromList, thawed, serve, refuse, takeFrom, served, onRun}
 use Rattle.model.proofs.Sites.{Tells, locate-tells}
 use Rattle.model.proofs.TakesObserved.{fill-length}

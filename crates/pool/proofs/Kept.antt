@@ -1,14 +1,6 @@
 -- The pool's invariant: what is out of the heap is granted or in stock, once.
-use Prim.Native.Nat.{ℕ, suc, _+_, _≤_}
-use mathlib.Core.Path.{_≡_, refl, sym, ap, _∙_, subst}
-use mathlib.Core.List.{List, [], _∷_, reverse}
-use mathlib.Core.Option.{some}
-use mathlib.Core.Bool.{Bool, true, false, not}
-use native.Mathlib.Omega.{arith}
-use lib.Dec.{eqb, ltb}
-use borrow.Author.Tests.{eqb-true, not-true, eq-eqb}
-use Rattle.facts.specs.Lists.{total, count, elem, update}
-use Rattle.facts.proofs.Bools.{by-cases, and-left, and-right}
+use Rattle.facts.proofs.Prelude.{ℕ, suc, _+_, _≤_, arith, Bool, true, false, not, List, [], _∷_, reverse, some, _≡_, refl, sym, ap, _∙_}
+use Rattle.facts.proofs.Prelude.{subst, eqb, ltb, eqb-true, not-true, eq-eqb, total, count, elem, update, by-cases, and-left, and-right}
 use Rattle.words.specs.Host.{badHost}
 use Rattle.classes.specs.Shape.{shapeOf, classCount}
 use Rattle.classes.proofs.Shapes.{shape-sound}

@@ -1,9 +1,5 @@
 -- No stock is let hold more blocks than it has room for.
-use Prim.Native.Nat.{ℕ, _*_, _/_, _≤_}
-use native.Mathlib.Omega.{arith}
-use lib.Dec.{ltb}
-use borrow.Author.Tests.{ltb-false}
-use Rattle.facts.proofs.Bools.{by-cases}
+use Rattle.facts.proofs.Prelude.{ℕ, _*_, _/_, _≤_, arith, ltb, ltb-false, by-cases}
 use Rattle.classes.specs.Shape.{shapeOf}
 use Rattle.classes.specs.Sizes.{granuleBytes}
 use Rattle.pool.specs.Stock.{countMax, stockBytes, stockLeast, stockLimit, clamped, stockMost}

@@ -1,10 +1,5 @@
 -- The pool's heap is what the heap's calls leave, and none of those that name a class is refused.
-use Prim.Native.Nat.{ℕ, suc, _≤_}
-use mathlib.Core.Path.{_≡_, refl, sym, ap, _∙_, subst}
-use mathlib.Core.List.{List, [], _∷_, _++_}
-use mathlib.Core.Bool.{Bool, true, false, false≢true}
-use native.Mathlib.Omega.{arith}
-use Rattle.facts.specs.Lists.{All, isSome}
+use Rattle.facts.proofs.Prelude.{ℕ, suc, _≤_, arith, Bool, true, false, false≢true, List, [], _∷_, _++_, _≡_, refl, sym, ap, _∙_, subst, All, isSome}
 use Rattle.words.specs.Limits.{maxPages}
 use Rattle.rules.specs.Rules.{Rules}
 use Rattle.model.specs.Calls.{Call, names, isRefused}

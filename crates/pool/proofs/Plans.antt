@@ -1,14 +1,5 @@
 -- The ways of a request, each with what is known then: seven, so that what follows goes by these and not by nested tests.
-use Prim.Native.Nat.{ℕ}
-use native.Mathlib.Omega.{arith}
-use mathlib.Core.Path.{_≡_, refl, subst}
-use mathlib.Core.List.{List, [], _∷_}
-use mathlib.Core.Bool.{Bool, true, false, cond, not}
-use lib.Dec.{ltb}
-use lib.ListN.{length}
-use borrow.Author.Tests.{not-false}
-use Rattle.facts.specs.Lists.{elem}
-use Rattle.facts.proofs.Bools.{by-cases}
+use Rattle.facts.proofs.Prelude.{ℕ, arith, Bool, true, false, cond, not, List, [], _∷_, _≡_, refl, subst, ltb, length, not-false, elem, by-cases}
 use Rattle.words.specs.Host.{badHost}
 use Rattle.classes.specs.Shape.{shapeOf, classCount}
 use Rattle.model.specs.Calls.{Request, take, giveBack}

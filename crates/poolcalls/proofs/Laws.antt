@@ -1,15 +1,6 @@
 -- The pool's words: what is read after a write, and a block among those of a stock.
-use Prim.Native.Nat.{ℕ, zero, suc, _+_, _*_, _/_, _%_, _≤_, _<_}
-use native.Mathlib.Omega.{arith}
-use mathlib.Core.Bool.{true, false, false≢true}
-use mathlib.Core.List.{List, [], _∷_}
-use mathlib.Core.Path.{_≡_, refl, sym, ap, _∙_, subst}
-use lib.Dec.{eqb, ltb}
-use lib.ListN.{length, getD, set}
-use lib.Seq.{getD-set-same, getD-set-other}
-use borrow.Author.Tests.{ltb-true, ltb-false, eq-eqb, eqb-true, eqb-false}
-use Rattle.facts.specs.Lists.{elem}
-use Rattle.facts.proofs.Bools.{by-cases, or-left, or-right}
+use Rattle.facts.proofs.Prelude.{ℕ, zero, suc, _+_, _*_, _/_, _%_, _≤_, _<_, arith, true, false, false≢true, List, [], _∷_, _≡_, refl, sym, ap, _∙_, subst, eqb, ltb}
+use Rattle.facts.proofs.Prelude.{length, getD, set, getD-set-same, getD-set-other, ltb-true, ltb-false, eq-eqb, eqb-true, eqb-false, elem, by-cases, or-left, or-right}
 use Rattle.words.specs.Word.{blockWord}
 use Rattle.classes.specs.Shape.{shapeOf}
 use Rattle.fields.specs.Field.{read, place}

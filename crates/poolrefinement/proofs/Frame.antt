@@ -2,18 +2,8 @@
 --     class-frame, direct-frame    a call of a class, a direct call; heap-frame, any call after a history
 --     field-in, set-changes        every field lies in such a word; a write to another changes no field
 --     represents-still             and the book stands for the same heap
-use Prim.Native.Nat.{ℕ, zero, suc, _+_, _-_, _*_, _/_, _%_, _≤_, _<_}
-use native.Mathlib.Omega.{arith}
-use mathlib.Core.Bool.{Bool, true, false, true≢false, false≢true}
-use mathlib.Core.List.{List, [], _∷_}
-use mathlib.Core.Logic.{inr}
-use mathlib.Core.Option.{Option, none, some}
-use mathlib.Core.Path.{_≡_, refl, sym, ap, _∙_, subst}
-use lib.Dec.{ltb, leb}
-use lib.ListN.{length, getD, set, length-set}
-use lib.Seq.{getD-set-other}
-use borrow.Author.Tests.{lt-ltb, le-ltb, ltb-true, ne-eqb, lt-leb}
-use Rattle.facts.proofs.Bools.{by-cases, and-no}
+use Rattle.facts.proofs.Prelude.{ℕ, zero, suc, _+_, _-_, _*_, _/_, _%_, _≤_, _<_, arith, Bool, true, false, true≢false, false≢true, List, [], _∷_, inr, Option, none, some, _≡_}
+use Rattle.facts.proofs.Prelude.{refl, sym, ap, _∙_, subst, ltb, leb, length, getD, set, length-set, getD-set-other, lt-ltb, le-ltb, ltb-true, ne-eqb, lt-leb, by-cases, and-no}
 use Rattle.words.specs.Host.{badHost}
 use Rattle.classes.specs.Shape.{shapeOf}
 use Rattle.classes.proofs.Shapes.{shape-sound}

@@ -1,16 +1,7 @@
 -- An alloc on an empty stock: a take, whose last block is granted and whose others come into stock.
-use Prim.Native.Nat.{ℕ, suc, _+_, _-_, _*_, _≤_, _<_}
-use native.Mathlib.Omega.{arith}
-use mathlib.Core.Bool.{Bool, true, false}
-use mathlib.Core.List.{List, [], _∷_, _++_, reverse, reverseAux, reverse-reverse}
-use mathlib.Core.Path.{_≡_, refl, sym, ap, _∙_, subst}
-use lib.Dec.{eqb, ltb}
+use Rattle.facts.proofs.Prelude.{ℕ, suc, _+_, _-_, _*_, _≤_, _<_, arith, Bool, true, false, List, [], _∷_, _++_, reverse, reverseAux, reverse-reverse, _≡_, refl, sym}
+use Rattle.facts.proofs.Prelude.{ap, _∙_, subst, eqb, ltb, length, getD, length-reverse, take-suc, eq-eqb, eqb-true, eqb-false, leb-true, elem, total, count, by-cases}
 use lib.ListN as ListN
-use lib.ListN.{length, getD, length-reverse}
-use lib.Seq.{take-suc}
-use borrow.Author.Tests.{eq-eqb, eqb-true, eqb-false, leb-true}
-use Rattle.facts.specs.Lists.{elem, total, count}
-use Rattle.facts.proofs.Bools.{by-cases}
 use Rattle.words.specs.Host.{badHost}
 use Rattle.words.specs.Word.{blockWord, granuleOf}
 use Rattle.classes.specs.Shape.{shapeOf, classCount}

@@ -1,15 +1,6 @@
 -- A request on the words is the model's: pop, push, a block back to the heap, a free that is refused.
-use Prim.Native.Nat.{ℕ, zero, suc, _-_, _*_, _≤_, _<_}
-use native.Mathlib.Omega.{arith}
-use mathlib.Core.Bool.{Bool, true, false, cond, true≢false}
-use mathlib.Core.List.{List, [], _∷_}
-use mathlib.Core.Option.{none}
-use mathlib.Core.Path.{_≡_, refl, sym, ap, _∙_, subst}
-use lib.Dec.{eqb, ltb}
-use lib.ListN.{length, getD}
-use borrow.Author.Tests.{lt-ltb, ltb-true, eq-eqb, ne-eqb, eqb-true, eqb-false, le-leb, leb-true, not-false}
-use Rattle.facts.specs.Lists.{elem, update, total}
-use Rattle.facts.proofs.Bools.{by-cases, and-left}
+use Rattle.facts.proofs.Prelude.{ℕ, zero, suc, _-_, _*_, _≤_, _<_, arith, Bool, true, false, cond, true≢false, List, [], _∷_, none, _≡_, refl, sym, ap, _∙_, subst, eqb, ltb}
+use Rattle.facts.proofs.Prelude.{length, getD, lt-ltb, ltb-true, eq-eqb, ne-eqb, eqb-true, eqb-false, le-leb, leb-true, not-false, elem, update, total, by-cases, and-left}
 use Rattle.words.specs.Host.{badHost}
 use Rattle.words.specs.Word.{blockWord, granuleOf, kindOf}
 use Rattle.classes.specs.declared.Shape.{Shape}

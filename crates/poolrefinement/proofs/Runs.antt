@@ -1,13 +1,6 @@
 -- Whole histories of the pool on an opened book.
-use Prim.Native.Nat.{ℕ, zero, suc, _≤_}
-use native.Mathlib.Omega.{arith}
-use mathlib.Core.Bool.{true, false, true≢false}
-use mathlib.Core.List.{List, [], _∷_, _++_, map}
-use mathlib.Core.Path.{_≡_, refl, sym, ap, ap₂, _∙_, subst}
-use lib.Dec.{ltb, leb}
-use lib.ListN.{length, getD}
-use lib.Seq.{getD-set-other}
-use borrow.Author.Tests.{ltb-true, lt-ltb, leb-true}
+use Rattle.facts.proofs.Prelude.{ℕ, zero, suc, _≤_, arith, true, false, true≢false, List, [], _∷_, _++_, map, _≡_, refl, sym}
+use Rattle.facts.proofs.Prelude.{ap, ap₂, _∙_, subst, ltb, leb, length, getD, getD-set-other, ltb-true, lt-ltb, leb-true}
 use Rattle.rules.specs.Rules.{Rules, Fit}
 use Rattle.fields.specs.Ranges.{maxPages}
 use Rattle.fields.specs.Field.{Field, arena, class, size, emptyLimit, coldLimit, word, words, ok, put}

@@ -2,16 +2,9 @@
 --     stocked-is     PLACE's test is membership
 --     stock-still    a book with the same words of the pool has the same stock
 --     PartRep        the first m places are these blocks; one more by part-put, and with COUNT m they are the stock
-use Prim.Native.Nat.{ℕ, zero, suc, _+_, _-_, _*_, _/_, _%_, _≤_, _<_}
-use native.Mathlib.Omega.{arith}
-use mathlib.Core.Bool.{true, false, true≢false}
-use mathlib.Core.List.{List, [], _∷_, reverse, reverseAux, head-eq-of-cons-eq, tail-eq-of-cons-eq}
-use mathlib.Core.Path.{_≡_, refl, sym, ap, ap₂, _∙_, subst}
-use lib.Dec.{eqb, ltb}
-use lib.ListN.{length, getD, length-set}
-use borrow.Author.Tests.{lt-ltb, le-ltb, ltb-true, ltb-false, eq-eqb, eqb-true, eqb-false, le-leb}
-use Rattle.facts.specs.Lists.{elem}
-use Rattle.facts.proofs.Bools.{by-cases, bool-eq, and-left, and-right}
+use Rattle.facts.proofs.Prelude.{ℕ, zero, suc, _+_, _-_, _*_, _/_, _%_, _≤_, _<_, arith, true, false, true≢false, List, [], _∷_, reverse, reverseAux}
+use Rattle.facts.proofs.Prelude.{head-eq-of-cons-eq, tail-eq-of-cons-eq, _≡_, refl, sym, ap, ap₂, _∙_, subst, eqb, ltb, length, getD, length-set}
+use Rattle.facts.proofs.Prelude.{lt-ltb, le-ltb, ltb-true, ltb-false, eq-eqb, eqb-true, eqb-false, le-leb, elem, by-cases, bool-eq, and-left, and-right}
 use Rattle.words.specs.Word.{blockWord, granuleOf}
 use Rattle.classes.specs.Shape.{shapeOf}
 use Rattle.fields.specs.Field.{words, read}

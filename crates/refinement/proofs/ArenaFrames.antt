@@ -3,19 +3,9 @@
 --     step-row, step-first so a class's row and FIRST of every page are as they were
 --     names b d x y        page y says that it is of class d's run at x
 --     whole-same           a run is whole as before if below the old frontier its pages are named as before, and no page above it names it
-use Prim.Native.Nat.{ℕ, zero, suc, _+_, _-_, _≤_, _<_}
-use native.Mathlib.Omega.{arith}
-use native.Mathlib.Nat.{add-zero}
-use mathlib.Core.Bool.{Bool, true, false, _&&_, _||_, true≢false, false≢true}
-use mathlib.Core.List.{List}
-use mathlib.Core.Option.{Option, none, some}
-use mathlib.Core.Path.{_≡_, refl, sym, ap, _∙_}
-use lib.Dec.{eqb, ltb, leb}
-use lib.ListN.{length}
-use borrow.Author.Tests.{ne-eqb, lt-ltb, ltb-true, le-leb, leb-true, leb-false}
-use Rattle.facts.specs.Lists.{every, below}
-use Rattle.facts.proofs.Bools.{by-cases, and-left, and-right, or-left, or-right}
-use Rattle.facts.proofs.Lists.{every-at, every-cong}
+use Rattle.facts.proofs.Prelude.{ℕ, zero, suc, _+_, _-_, _≤_, _<_, arith, add-zero, Bool, true, false, _&&_, _||_, true≢false, false≢true}
+use Rattle.facts.proofs.Prelude.{List, Option, none, some, _≡_, refl, sym, ap, _∙_, eqb, ltb, leb, length, ne-eqb, lt-ltb, ltb-true, le-leb}
+use Rattle.facts.proofs.Prelude.{leb-true, leb-false, every, below, by-cases, and-left, and-right, or-left, or-right, every-at, every-cong}
 use Rattle.rules.specs.declared.Limits.{Limits}
 use Rattle.model.specs.Cover.{inRun}
 use Rattle.model.specs.Heap.{direct}

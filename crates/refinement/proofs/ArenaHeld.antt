@@ -1,12 +1,5 @@
 -- The pages held, as a number: what a run adds when it passes to a holder, and takes away when it passes to nobody.
-use Prim.Native.Nat.{ℕ, zero, suc, _+_, _-_, _≤_}
-use native.Mathlib.Omega.{arith}
-use mathlib.Core.Bool.{cond}
-use mathlib.Core.Path.{_≡_}
-use lib.Dec.{eqb, ltb}
-use borrow.Author.Tests.{ltb-true, ltb-false, eqb-true, eqb-false}
-use Rattle.facts.specs.Lists.{total, below}
-use Rattle.facts.proofs.Bools.{by-cases}
+use Rattle.facts.proofs.Prelude.{ℕ, zero, suc, _+_, _-_, _≤_, arith, cond, _≡_, eqb, ltb, ltb-true, ltb-false, eqb-true, eqb-false, total, below, by-cases}
 use Rattle.model.specs.Cover.{covers}
 use Rattle.model.specs.Heap.{Holder, nobody, isHeld, passTo}
 use Rattle.model.proofs.Runs.{covers-in, covers-before, covers-after}

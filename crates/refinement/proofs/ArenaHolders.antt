@@ -1,13 +1,5 @@
 -- After every history a page is held by nobody, by the direct calls, or by one of the 76 classes.
-use Prim.Native.Nat.{ℕ, _+_, _-_}
-use native.Mathlib.Omega.{arith}
-use mathlib.Core.Bool.{Bool, true, false, cond}
-use mathlib.Core.List.{List, [], _∷_}
-use mathlib.Core.Option.{some, Option·none-ne-some}
-use mathlib.Core.Path.{_≡_, refl, sym, ap}
-use lib.Dec.{eqb, ltb}
-use borrow.Author.Tests.{ltb-true, lt-ltb}
-use Rattle.facts.proofs.Bools.{by-cases}
+use Rattle.facts.proofs.Prelude.{ℕ, _+_, _-_, arith, Bool, true, false, cond, List, [], _∷_, some, Option·none-ne-some, _≡_, refl, sym, ap, eqb, ltb, ltb-true, lt-ltb, by-cases}
 use Rattle.rules.specs.Rules.{Rules}
 use Rattle.model.specs.Cover.{covers, coversAll, coversRun}
 use Rattle.classes.specs.Shape.{shapeOf}

@@ -2,14 +2,8 @@
 --     step-keeps    a page of the class whose run is whole afterwards is as it was
 --     step-class    a class whose runs are whole as before is as it was
 --     class-left    a class whose run in no list was given: that page is gone, the rest is as it was; other-class-left: another class
-use Prim.Native.Nat.{ℕ, _+_, _≤_}
-use native.Mathlib.Omega.{arith}
+use Rattle.facts.proofs.Prelude.{ℕ, _+_, _≤_, arith, Bool, true, false, cond, List, [], _∷_, _≡_, refl, _∙_, eqb, ltb, eq-eqb, ne-eqb}
 use native.Mathlib.Decide.{ℕ-discrete}
-use mathlib.Core.Bool.{Bool, true, false, cond}
-use mathlib.Core.List.{List, [], _∷_}
-use mathlib.Core.Path.{_≡_, refl, _∙_}
-use lib.Dec.{eqb, ltb}
-use borrow.Author.Tests.{eq-eqb, ne-eqb}
 use Rattle.model.specs.Cover.{inRun, covers}
 use Rattle.classes.specs.declared.Shape.{Shape}
 use Rattle.classes.specs.way.Sound.{Sound}

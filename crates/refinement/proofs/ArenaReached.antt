@@ -2,15 +2,8 @@
 --     Reached          the hole store is tidy, the frontier is in the arena, no page is in two places, and holders are known
 --     reached-after    every heap after a history is reached
 --     reached-commit, reached-grow, reached-give    a step of the arena, with what it passes to a holder, keeps this
-use Prim.Native.Nat.{ℕ, zero, suc, _+_, _≤_, _<_}
-use native.Mathlib.Omega.{arith}
-use mathlib.Core.Bool.{true, cond}
-use mathlib.Core.List.{List, [], _∷_, _++_}
-use mathlib.Core.Path.{_≡_, refl}
-use lib.Dec.{eqb, ltb}
-use borrow.Author.Tests.{ltb-true, ltb-false, eqb-true, eqb-false}
-use Rattle.facts.specs.Lists.{total, below}
-use Rattle.facts.proofs.Bools.{by-cases}
+use Rattle.facts.proofs.Prelude.{ℕ, zero, suc, _+_, _≤_, _<_, arith, true, cond, List, [], _∷_, _++_, _≡_, refl}
+use Rattle.facts.proofs.Prelude.{eqb, ltb, ltb-true, ltb-false, eqb-true, eqb-false, total, below, by-cases}
 use Rattle.rules.specs.Rules.{Rules}
 use Rattle.model.specs.Cover.{covers, coversRun}
 use Rattle.model.specs.Calls.{Call}

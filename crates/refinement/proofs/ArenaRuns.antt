@@ -4,14 +4,8 @@
 --     commit-whole    a commit for another holder is such a step; grow-whole, give-whole
 --     claimed-others, claimed-new   a commit for a class, once the run's pages name its first: the others are as before, the run is whole
 --     left-whole, left-gone         a class's run is given: it is not whole any more, the others are as before
-use Prim.Native.Nat.{ℕ, suc, _+_, _≤_, _<_}
-use native.Mathlib.Omega.{arith}
-use mathlib.Core.Bool.{Bool, true, false, cond, _&&_}
-use mathlib.Core.List.{List}
-use mathlib.Core.Path.{_≡_, refl, sym, _∙_}
-use lib.Dec.{eqb, ltb, leb, eqb·zero-suc}
-use borrow.Author.Tests.{ltb-true, ltb-false, ne-eqb, eqb-true, eqb-false, le-leb, lt-ltb, leb-true}
-use Rattle.facts.proofs.Bools.{by-cases, and-left, and-right}
+use Rattle.facts.proofs.Prelude.{ℕ, suc, _+_, _≤_, _<_, arith, Bool, true, false, cond, _&&_, List, _≡_, refl, sym, _∙_, eqb, ltb, leb, eqb·zero-suc}
+use Rattle.facts.proofs.Prelude.{ltb-true, ltb-false, ne-eqb, eqb-true, eqb-false, le-leb, lt-ltb, leb-true, by-cases, and-left, and-right}
 use Rattle.model.specs.Cover.{inRun, covers, coversRun}
 use Rattle.classes.specs.declared.Shape.{Shape}
 use Rattle.fields.specs.Field.{arena, page, owner, first, frontier, get}

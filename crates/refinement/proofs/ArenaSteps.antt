@@ -1,15 +1,8 @@
 -- The arena's part of the representation along the writes of a step: storing an arena, giving pages an owner, counting them as held.
 --     rep-kept              a book with the same words of the arena and OWNERs stands for the same
 --     Stands n b a w f k    the words stand for the arena a and for the holders w of the pages below f, and HELD is k
-use Prim.Native.Nat.{ℕ, _+_, _-_, _≤_, _<_}
-use native.Mathlib.Omega.{arith}
-use mathlib.Core.Bool.{Bool, true, false, not, false≢true}
-use mathlib.Core.List.{List}
-use mathlib.Core.Path.{_≡_, refl, sym, ap, _∙_}
-use lib.Dec.{eqb, ltb, leb}
-use lib.ListN.{length}
-use borrow.Author.Tests.{ltb-true, ltb-false, le-leb, lt-ltb, lt-leb}
-use Rattle.facts.proofs.Bools.{by-cases}
+use Rattle.facts.proofs.Prelude.{ℕ, _+_, _-_, _≤_, _<_, arith, Bool, true, false, not, false≢true, List, _≡_, refl, sym}
+use Rattle.facts.proofs.Prelude.{ap, _∙_, eqb, ltb, leb, length, ltb-true, ltb-false, le-leb, lt-ltb, lt-leb, by-cases}
 use Rattle.rules.specs.Rules.{Rules}
 use Rattle.model.specs.Cover.{inRun, covers}
 use Rattle.words.specs.Limits.{holeSlots}

@@ -1,13 +1,7 @@
 -- The arena's words: what was stored is loaded again.
 --     load-kept        a book with the same such words holds the same arena
 --     load-store       an arena that was stored is loaded again
-use Prim.Native.Nat.{ℕ, _≤_}
-use native.Mathlib.Omega.{arith}
-use mathlib.Core.Bool.{true}
-use mathlib.Core.List.{List}
-use mathlib.Core.Path.{_≡_, refl, _∙_}
-use lib.Dec.{ltb, leb}
-use lib.ListN.{length}
+use Rattle.facts.proofs.Prelude.{ℕ, _≤_, arith, true, List, _≡_, refl, _∙_, ltb, leb, length}
 use Rattle.words.specs.Limits.{holeSlots}
 use Rattle.fields.specs.Field.{Field, arena, hole, HoleField, state, frontier, holes, holePages, commits, commitsHigh, reuses, reusesHigh, abandoned, abandonedHigh, get, ok, words}
 use Rattle.fields.specs.Wide.{getWide}

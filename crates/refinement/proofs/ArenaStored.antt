@@ -3,15 +3,7 @@
 --     commit-stored, grow-stored    a commit, a growth
 --     stored-changes     no other words change
 --     stored-written     the model's arena is loaded again
-use Prim.Native.Nat.{ℕ, _+_, _≤_}
-use native.Mathlib.Omega.{arith}
-use mathlib.Core.Bool.{Bool, true}
-use mathlib.Core.List.{List}
-use mathlib.Core.Option.{Option, none, some}
-use mathlib.Core.Path.{_≡_}
-use lib.Dec.{leb}
-use lib.ListN.{length}
-use Rattle.facts.proofs.Bools.{by-cases}
+use Rattle.facts.proofs.Prelude.{ℕ, _+_, _≤_, arith, Bool, true, List, Option, none, some, _≡_, leb, length, by-cases}
 use Rattle.words.specs.Limits.{holeSlots}
 use Rattle.words.specs.Host.{reservationGranted, commitGranted}
 use Rattle.fields.specs.Field.{words}

@@ -2,16 +2,7 @@
 --     record-passes, holes-passes    the record, the holes
 --     commit-passes                  all that a commit tests
 --     give-passes, grow-passes       all that a give of held pages tests; all that a growth tests
-use Prim.Native.Nat.{ℕ, _+_, _≤_}
-use native.Mathlib.Omega.{arith}
-use mathlib.Core.Bool.{true}
-use mathlib.Core.List.{List, [], _∷_}
-use mathlib.Core.Path.{_≡_, refl, sym, ap, _∙_}
-use lib.Dec.{leb}
-use lib.ListN.{length}
-use borrow.Author.Tests.{le-leb}
-use Rattle.facts.specs.Lists.{every, All, total}
-use Rattle.facts.proofs.Bools.{by-cases}
+use Rattle.facts.proofs.Prelude.{ℕ, _+_, _≤_, arith, true, List, [], _∷_, _≡_, refl, sym, ap, _∙_, leb, length, le-leb, every, All, total, by-cases}
 use Rattle.fields.specs.Field.{arena, state, frontier, holes, holePages, held, get}
 use Rattle.words.specs.Limits.{holeSlots, holePagesMax}
 use Rattle.model.specs.declared.Hole.{Hole}

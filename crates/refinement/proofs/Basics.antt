@@ -1,11 +1,6 @@
 -- The standing facts of a class's proofs, and tests as numbers.
 --     Setting     the book is long enough, the class is one, its shape is sound
-use Prim.Native.Nat.{ℕ}
-use mathlib.Core.Bool.{Bool, true, false}
-use mathlib.Core.List.{List}
-use mathlib.Core.Path.{_≡_, refl}
-use lib.Dec.{ltb, leb}
-use lib.ListN.{length}
+use Rattle.facts.proofs.Prelude.{ℕ, Bool, true, false, List, _≡_, refl, ltb, leb, length}
 use Rattle.classes.specs.declared.Shape.{Shape}
 use Rattle.classes.specs.way.Sound.{Sound}
 use Rattle.fields.specs.Field.{words}

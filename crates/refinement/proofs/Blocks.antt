@@ -1,17 +1,8 @@
 -- Lists of block indices, and the stack that holds them.
 --     few-counts            a list that has each index below k at most once, and no other, is no longer than k
 --     top-entries-take      the top entries of a stack that is represented
-use Prim.Native.Nat.{ℕ, zero, suc, _+_, _≤_}
-use native.Mathlib.Omega.{arith}
-use native.Mathlib.Nat.{zero-add}
-use mathlib.Core.Bool.{Bool, true, cond}
-use mathlib.Core.List.{List, [], _∷_, _++_, map, reverse, reverseAux}
-use mathlib.Core.Path.{_≡_, refl, sym, ap}
-use lib.Dec.{eqb, ltb}
-use lib.ListN.{length, take, drop}
-use borrow.Author.Tests.{lt-ltb, ltb-true, ltb-false}
-use Rattle.facts.specs.Lists.{every, total, count, below}
-use Rattle.facts.proofs.Bools.{by-cases}
+use Rattle.facts.proofs.Prelude.{ℕ, zero, suc, _+_, _≤_, arith, zero-add, Bool, true, cond, List, [], _∷_, _++_, map, reverse, reverseAux, _≡_}
+use Rattle.facts.proofs.Prelude.{refl, sym, ap, eqb, ltb, length, take, drop, lt-ltb, ltb-true, ltb-false, every, total, count, below, by-cases}
 use Rattle.classes.specs.declared.Shape.{Shape}
 use Rattle.model.specs.Page.{wordOf, wordsFrom}
 use Rattle.model.proofs.Sums.{total-plus}

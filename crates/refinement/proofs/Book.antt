@@ -2,15 +2,8 @@
 --     setting-of           the standing facts, of a represented book
 --     represents-class     the book stands for the heap with that class's new state
 --     Stands               it stands for a reached heap whose class c has state t
-use Prim.Native.Nat.{ℕ}
-use native.Mathlib.Omega.{arith}
+use Rattle.facts.proofs.Prelude.{ℕ, arith, true, false, List, _≡_, sym, subst, ltb, eq-eqb, ne-eqb, le-ltb, update}
 use native.Mathlib.Decide.{ℕ-discrete}
-use mathlib.Core.Bool.{true, false}
-use mathlib.Core.List.{List}
-use mathlib.Core.Path.{_≡_, sym, subst}
-use lib.Dec.{ltb}
-use borrow.Author.Tests.{eq-eqb, ne-eqb, le-ltb}
-use Rattle.facts.specs.Lists.{update}
 use Rattle.classes.specs.Shape.{shapeOf}
 use Rattle.classes.proofs.Shapes.{shape-sound}
 use Rattle.fields.specs.Field.{arena, frontier, get}

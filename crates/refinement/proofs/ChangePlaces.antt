@@ -3,15 +3,8 @@
 --     Swap              both orders of two calls on a book
 --     AtHome            a call that does not reach the arena
 --     change-places     the two orders, where one is at home
-use Prim.Native.Nat.{ℕ, _+_, _≤_}
-use native.Mathlib.Omega.{arith}
-use mathlib.Core.Bool.{Bool, true, false, cond}
-use mathlib.Core.List.{List, [], _∷_, _++_}
-use mathlib.Core.Logic.{_⊎_, inl, inr}
-use mathlib.Core.Option.{some}
-use mathlib.Core.Path.{_≡_, refl, sym, ap, _∙_, subst}
-use lib.Dec.{eqb, ltb}
-use borrow.Author.Tests.{eqb-true}
+use Rattle.facts.proofs.Prelude.{ℕ, _+_, _≤_, arith, Bool, true, false, cond, List, [], _∷_, _++_, _⊎_, inl}
+use Rattle.facts.proofs.Prelude.{inr, some, _≡_, refl, sym, ap, _∙_, subst, eqb, ltb, eqb-true, by-cases}
 use Rattle.words.specs.Host.{badHost}
 use Rattle.classes.specs.Shape.{shapeOf}
 use Rattle.rules.specs.Rules.{Rules}
@@ -23,7 +16,6 @@ use Rattle.model.specs.Chunks.{answer}
 use Rattle.model.specs.Heap.{Heap, classCall, step, newHeap}
 use Rattle.model.specs.History.{heapAfter}
 use Rattle.model.specs.Demands.{StaysHome}
-use Rattle.facts.proofs.Bools.{by-cases}
 use Rattle.model.proofs.Update.{other-way}
 use Rattle.model.proofs.Commute.{commute}
 use Rattle.model.proofs.Yields.{yielding}

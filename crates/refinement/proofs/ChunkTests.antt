@@ -1,15 +1,8 @@
 -- A group release's test of number 11 on the words is the model's.
 --     same-blocks      a chunk's blocks are the model's
 --     chunks-same      number 11
-use Prim.Native.Nat.{ℕ, _≤_}
-use mathlib.Core.Bool.{Bool, true, false, cond, not, _&&_}
-use mathlib.Core.List.{List, [], _∷_, map}
-use mathlib.Core.Option.{Option, none, some}
-use mathlib.Core.Path.{_≡_, refl, ap, _∙_}
-use lib.Dec.{eqb}
-use borrow.Author.Tests.{eqb-true}
-use Rattle.facts.specs.Lists.{every, All, elem, distinct}
-use Rattle.facts.proofs.Bools.{by-cases, and-left, and-right}
+use Rattle.facts.proofs.Prelude.{ℕ, _≤_, Bool, true, false, cond, not, _&&_, List, [], _∷_, map, Option, none, some, _≡_}
+use Rattle.facts.proofs.Prelude.{refl, ap, _∙_, eqb, eqb-true, every, All, elem, distinct, by-cases, and-left, and-right}
 use Rattle.words.specs.Word.{countOf, pageOf}
 use Rattle.classes.specs.declared.Shape.{Shape}
 use Rattle.fields.specs.Ranges.{maxPages}

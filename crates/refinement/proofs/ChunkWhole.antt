@@ -5,17 +5,8 @@
 --     chunks-ends      refused by both with one number, or settled alike
 --     chunks-whole     every group release, refused or not, of any fates, the gives included
 --     chunks-after     the same after any history
-use Prim.Native.Nat.{ℕ, _+_, _≤_}
-use native.Mathlib.Omega.{arith}
-use mathlib.Core.Bool.{true, false, not, _&&_, _||_, false≢true}
-use mathlib.Core.List.{List, [], _∷_, _++_, map}
-use mathlib.Core.Option.{Option, none, some}
-use mathlib.Core.Path.{_≡_, refl, sym, ap, _∙_, subst}
-use lib.Dec.{eqb, ltb}
-use lib.ListN.{length, drop, length-append}
-use borrow.Author.Tests.{eqb-true, eq-eqb, not-false}
-use Rattle.facts.specs.Lists.{isNil, every, All, distinct}
-use Rattle.facts.proofs.Bools.{by-cases, bool-eq, and-left, and-right}
+use Rattle.facts.proofs.Prelude.{ℕ, _+_, _≤_, arith, true, false, not, _&&_, _||_, false≢true, List, [], _∷_, _++_, map, Option, none, some, _≡_, refl, sym, ap, _∙_, subst}
+use Rattle.facts.proofs.Prelude.{eqb, ltb, length, drop, length-append, eqb-true, eq-eqb, not-false, isNil, every, All, distinct, by-cases, bool-eq, and-left, and-right}
 use Rattle.words.specs.Word.{chunkKind, countOf, pageOf}
 use Rattle.classes.specs.Shape.{smallShape, shapeOf}
 use Rattle.rules.specs.declared.Limits.{Limits}

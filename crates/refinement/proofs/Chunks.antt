@@ -4,17 +4,9 @@
 --     Waits            a chunk whose page has its blocks out, whatever the chunks before it did
 --     First            what comes of the first chunk
 --     chunks-rep       all chunks
-use Prim.Native.Nat.{ℕ, _+_, _≤_}
-use native.Mathlib.Omega.{arith}
-use mathlib.Core.Bool.{Bool, true, false, cond, not, true≢false}
-use mathlib.Core.List.{List, [], _∷_, _++_, map, append-assoc, append-nil}
-use mathlib.Core.Option.{Option, none, some, Option·none-ne-some, Option·some-injective}
-use mathlib.Core.Path.{_≡_, refl, sym, ap, _∙_}
-use lib.Dec.{eqb}
-use lib.ListN.{length}
-use borrow.Author.Tests.{eqb-true, ne-eqb, not-true}
-use Rattle.facts.specs.Lists.{filter, every, All, elem, distinct, count}
-use Rattle.facts.proofs.Bools.{by-cases, and-left, and-right}
+use Rattle.facts.proofs.Prelude.{ℕ, _+_, _≤_, arith, Bool, true, false, cond, not, true≢false, List, [], _∷_, _++_, map, append-assoc}
+use Rattle.facts.proofs.Prelude.{append-nil, Option, none, some, Option·none-ne-some, Option·some-injective, _≡_, refl, sym, ap, _∙_, eqb}
+use Rattle.facts.proofs.Prelude.{length, eqb-true, ne-eqb, not-true, filter, every, All, elem, distinct, count, by-cases, and-left, and-right}
 use Rattle.words.specs.Word.{pageOf}
 use Rattle.classes.specs.declared.Shape.{Shape}
 use Rattle.rules.specs.declared.Limits.{Limits}

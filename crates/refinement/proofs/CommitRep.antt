@@ -2,12 +2,7 @@
 --     commit-for     a commit on the words is never refused, and answers the model's run and whether it is fresh
 --     commit-rep     the book afterwards stands for the model's arena, and the run is the holder's
 --     grow-rep       the same for a growth
-use Prim.Native.Nat.{ℕ, _+_, _≤_}
-use native.Mathlib.Omega.{arith}
-use mathlib.Core.Bool.{Bool, true, false, cond}
-use mathlib.Core.List.{List}
-use mathlib.Core.Option.{Option, none, some}
-use mathlib.Core.Path.{_≡_, refl, subst, fun-ext}
+use Rattle.facts.proofs.Prelude.{ℕ, _+_, _≤_, arith, Bool, true, false, cond, List, Option, none, some, _≡_, refl, subst, fun-ext}
 use Rattle.model.specs.Cover.{covers, coversRun}
 use Rattle.fields.specs.Field.{arena, held, get}
 use Rattle.model.specs.Arena.{Arena, commit, grow}

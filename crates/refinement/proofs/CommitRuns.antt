@@ -3,15 +3,7 @@
 --     claim-new          the run itself is whole now
 --     claim-none         no class had a run there before
 -- b is the book before the commit, b′ any book that stands for the model's arena and holders after it.
-use Prim.Native.Nat.{ℕ, _+_, _≤_, _<_}
-use native.Mathlib.Omega.{arith}
-use mathlib.Core.Bool.{true, false}
-use mathlib.Core.List.{List}
-use mathlib.Core.Option.{some}
-use mathlib.Core.Path.{_≡_, refl, sym, ap, _∙_}
-use lib.Dec.{eqb}
-use borrow.Author.Tests.{eqb-true, eqb-false, le-leb, lt-ltb}
-use Rattle.facts.proofs.Bools.{by-cases}
+use Rattle.facts.proofs.Prelude.{ℕ, _+_, _≤_, _<_, arith, true, false, List, some, _≡_, refl, sym, ap, _∙_, eqb, eqb-true, eqb-false, le-leb, lt-ltb, by-cases}
 use Rattle.model.specs.Cover.{inRun, covers, coversRun}
 use Rattle.classes.specs.declared.Shape.{Shape}
 use Rattle.fields.specs.Field.{page, owner, first, get}

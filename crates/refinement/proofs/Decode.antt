@@ -4,17 +4,10 @@
 --     out-sits, sits-out     the model's `isOut` says so of a represented page
 --     in-sits, sits-in       and so does `outIn`
 --     sits-at            then the word is out in the class, and its run is the page's
-use Prim.Native.Nat.{ℕ, zero, suc, _+_, _-_, _*_, _/_, _≤_, _<_}
-use native.Mathlib.Omega.{arith}
-use native.Mathlib.Nat.{zero-add, mul-le-mul-right, mul-div-cancel}
+use Rattle.facts.proofs.Prelude.{ℕ, zero, suc, _+_, _-_, _*_, _/_, _≤_, _<_, arith, zero-add, mul-le-mul-right, mul-div-cancel, Bool}
+use Rattle.facts.proofs.Prelude.{true, not, _&&_, List, [], _∷_, map, _≡_, refl, sym, ap, _∙_, eqb, ltb, leb, eq-eqb, ne-eqb, eqb-true}
+use Rattle.facts.proofs.Prelude.{eqb-false, ltb-true, leb-true, le-leb, lt-ltb, not-true, elem, count, by-cases, and-left, and-right}
 use native.Mathlib.Decide.{ℕ-discrete, decLe}
-use mathlib.Core.Bool.{Bool, true, not, _&&_}
-use mathlib.Core.List.{List, [], _∷_, map}
-use mathlib.Core.Path.{_≡_, refl, sym, ap, _∙_}
-use lib.Dec.{eqb, ltb, leb}
-use borrow.Author.Tests.{eq-eqb, ne-eqb, eqb-true, eqb-false, ltb-true, leb-true, le-leb, lt-ltb, not-true}
-use Rattle.facts.specs.Lists.{elem, count}
-use Rattle.facts.proofs.Bools.{by-cases, and-left, and-right}
 use Rattle.words.specs.Word.{kindOf, granuleOf}
 use Rattle.classes.specs.declared.Shape.{Shape}
 use Rattle.classes.specs.way.Sound.{Sound}

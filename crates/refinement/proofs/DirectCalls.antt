@@ -2,16 +2,8 @@
 -- stands for the model's arena and holders.
 --     held-direct       number 12's test on the words is the model's
 --     direct-represents    every call that names no class, on the whole book
-use Prim.Native.Nat.{ℕ, suc, _+_, _-_, _≤_, _<_}
-use native.Mathlib.Omega.{arith}
-use mathlib.Core.Bool.{Bool, true, false, cond, not, _&&_, _||_, false≢true}
-use mathlib.Core.List.{List}
-use mathlib.Core.Path.{_≡_, refl, sym, ap}
-use lib.Dec.{eqb, ltb, leb}
-use borrow.Author.Tests.{leb-true, leb-false, ltb-true, ne-eqb, not-false}
-use Rattle.facts.specs.Lists.{every, below}
-use Rattle.facts.proofs.Bools.{by-cases, and-left, and-right, nor-left}
-use Rattle.facts.proofs.Lists.{every-at, every-cong}
+use Rattle.facts.proofs.Prelude.{ℕ, suc, _+_, _-_, _≤_, _<_, arith, Bool, true, false, cond, not, _&&_, _||_, false≢true, List, _≡_, refl, sym, ap, eqb, ltb, leb}
+use Rattle.facts.proofs.Prelude.{leb-true, leb-false, ltb-true, ne-eqb, not-false, every, below, by-cases, and-left, and-right, nor-left, every-at, every-cong}
 use Rattle.model.specs.Cover.{inRun, covers}
 use Rattle.classes.specs.declared.Shape.{Shape}
 use Rattle.classes.specs.Shape.{shapeOf}

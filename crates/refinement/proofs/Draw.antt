@@ -2,16 +2,8 @@
 --     draw-holds     the words of the run afterwards
 --     pop-rep        the page afterwards is the model's
 --     pop-blocks     the blocks are the model's
-use Prim.Native.Nat.{ℕ, suc, _+_, _-_, min}
-use native.Mathlib.Omega.{arith}
-use mathlib.Core.Bool.{Bool, true, cond, not, _&&_}
-use mathlib.Core.List.{List, [], _∷_, _++_, map, reverse}
-use mathlib.Core.Path.{_≡_, refl, sym, ap, _∙_}
-use lib.Dec.{eqb, ltb}
-use lib.ListN.{length, take, drop, length-append, length-drop, length-take, length-reverse}
-use borrow.Author.Tests.{lt-ltb, eq-eqb, ne-eqb, eqb-true, eqb-false}
-use Rattle.facts.specs.Lists.{isNil, every, count}
-use Rattle.facts.proofs.Bools.{by-cases}
+use Rattle.facts.proofs.Prelude.{ℕ, suc, _+_, _-_, min, arith, Bool, true, cond, not, _&&_, List, [], _∷_, _++_, map, reverse, _≡_, refl, sym, ap, _∙_, eqb, ltb, length, take}
+use Rattle.facts.proofs.Prelude.{drop, length-append, length-drop, length-take, length-reverse, lt-ltb, eq-eqb, ne-eqb, eqb-true, eqb-false, isNil, every, count, by-cases}
 use Rattle.classes.specs.declared.Shape.{Shape}
 use Rattle.fields.specs.Field.{Field, page, mark, slot, out, owner, free, carved, listed, virgin, region, get, off}
 use Rattle.fields.proofs.Laws.{get-put-other}

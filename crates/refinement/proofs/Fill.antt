@@ -1,15 +1,6 @@
 -- Filling from the partial list: the words do what the model's `fillFromList` says, and change only words of the class.
-use Prim.Native.Nat.{ℕ, zero, suc, _+_, _-_, _≤_, _<_, min}
-use native.Mathlib.Omega.{arith}
-use mathlib.Core.Bool.{true, false, not, _||_}
-use mathlib.Core.List.{List, [], _∷_, _++_, map}
-use mathlib.Core.Logic.{_⊎_, inl, inr}
-use mathlib.Core.Path.{_≡_, refl, sym, ap, _∙_}
-use lib.Dec.{eqb, ltb, leb}
-use lib.ListN.{length, drop, length-drop}
-use borrow.Author.Tests.{eq-eqb, ne-eqb, eqb-true, eqb-false, ltb-true, leb-true, leb-false}
-use Rattle.facts.specs.Lists.{isNil, All}
-use Rattle.facts.proofs.Bools.{by-cases}
+use Rattle.facts.proofs.Prelude.{ℕ, zero, suc, _+_, _-_, _≤_, _<_, min, arith, true, false, not, _||_, List, [], _∷_, _++_, map, _⊎_, inl, inr, _≡_, refl, sym, ap, _∙_}
+use Rattle.facts.proofs.Prelude.{eqb, ltb, leb, length, drop, length-drop, eq-eqb, ne-eqb, eqb-true, eqb-false, ltb-true, leb-true, leb-false, isNil, All, by-cases}
 use Rattle.classes.specs.declared.Shape.{Shape}
 use Rattle.fields.specs.Field.{class, page, partial, virgin, get}
 use Rattle.fields.proofs.Changes.{changes-none}

@@ -1,17 +1,10 @@
 -- What lies in a class's words, and what in the others.
 --     footprint-home          a class's steps keep to its own words
 --     off-home, off-arena, off-page    those of another class, and the arena's, to the other words
-use Prim.Native.Nat.{ℕ, suc, _+_, _-_, _*_, _/_, _≤_, _<_}
-use native.Mathlib.Omega.{arith}
-use mathlib.Core.Bool.{true, false}
-use mathlib.Core.List.{List}
-use mathlib.Core.Path.{_≡_, sym, _∙_}
-use lib.Dec.{eqb, ltb}
-use borrow.Author.Tests.{eq-eqb, ne-eqb, lt-ltb, le-ltb, ltb-true}
+use Rattle.facts.proofs.Prelude.{ℕ, suc, _+_, _-_, _*_, _/_, _≤_, _<_, arith, true, false, List, _≡_, sym, _∙_, eqb, ltb, eq-eqb, ne-eqb, lt-ltb, le-ltb, ltb-true, by-cases}
 use Rattle.classes.specs.declared.Shape.{Shape}
 use Rattle.classes.specs.way.Sound.{Sound}
 use Rattle.fields.specs.Field.{page, owner, pair, get}
-use Rattle.facts.proofs.Bools.{by-cases}
 use Rattle.pages.specs.Runs.{whole}
 use Rattle.refinement.specs.way.Footprint.{pageOf, footprint, off}
 use Rattle.pages.proofs.Runs.{whole-owner}

@@ -4,16 +4,8 @@
 --     same-page       on a page of the class a block is out exactly if the words name that page
 --     out-here        number 10's test on the words is the model's
 --     site-of         the site of a word that is out
-use Prim.Native.Nat.{ℕ, _+_, _≤_}
-use native.Mathlib.Omega.{arith}
-use mathlib.Core.Bool.{Bool, true, false, true≢false, false≢true}
-use mathlib.Core.List.{List, [], _∷_, _++_, map, append-assoc}
-use mathlib.Core.Option.{Option, none, some}
-use mathlib.Core.Path.{_≡_, refl, sym, ap, _∙_, subst}
-use lib.Dec.{eqb, leb}
-use borrow.Author.Tests.{eq-eqb, eqb-true, leb-true, leb-false}
-use Rattle.facts.specs.Lists.{every, All, isSome}
-use Rattle.facts.proofs.Bools.{by-cases, bool-eq, and-left, and-right}
+use Rattle.facts.proofs.Prelude.{ℕ, _+_, _≤_, arith, Bool, true, false, true≢false, false≢true, List, [], _∷_, _++_, map, append-assoc, Option, none, some, _≡_, refl}
+use Rattle.facts.proofs.Prelude.{sym, ap, _∙_, subst, eqb, leb, eq-eqb, eqb-true, leb-true, leb-false, every, All, isSome, by-cases, bool-eq, and-left, and-right}
 use Rattle.classes.specs.declared.Shape.{Shape}
 use Rattle.fields.specs.Ranges.{maxPages}
 use Rattle.fields.specs.Field.{page}

@@ -3,14 +3,7 @@
 --                  counted so too: no call of the class writes them
 --     Only         a change of one class's fields only
 --     isData q     the fields that say what the blocks of the run at q are
-use Prim.Native.Nat.{ℕ, suc}
-use mathlib.Core.Bool.{Bool, true, false, cond, _&&_, _||_}
-use mathlib.Core.List.{List, [], _∷_}
-use mathlib.Core.Path.{_≡_, refl, _∙_}
-use lib.Dec.{eqb, ltb, leb, eqb·zero-suc}
-use lib.ListN.{length}
-use borrow.Author.Tests.{lt-ltb}
-use Rattle.facts.proofs.Bools.{by-cases}
+use Rattle.facts.proofs.Prelude.{ℕ, suc, Bool, true, false, cond, _&&_, _||_, List, [], _∷_, _≡_, refl, _∙_, eqb, ltb, leb, eqb·zero-suc, length, lt-ltb, by-cases}
 use Rattle.classes.specs.declared.Shape.{Shape}
 use Rattle.fields.specs.Field.{Field, arena, class, hole, page, mark, slot, out, owner, pageOff, get, emptyLimit, coldLimit, classOff}
 use Rattle.rules.specs.declared.Limits.{Limits}

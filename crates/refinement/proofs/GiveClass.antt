@@ -2,16 +2,9 @@
 --     arena-only         a change of one class's fields only keeps the arena's part
 --     run-held           the pages of a class's run are held
 --     give-represents    the page in no list is given
-use Prim.Native.Nat.{ℕ, suc, _+_, _≤_, _<_}
-use native.Mathlib.Omega.{arith}
+use Rattle.facts.proofs.Prelude.{ℕ, suc, _+_, _≤_, _<_, arith, true, false, false≢true, List, _∷_, map, _≡_, refl, sym, _∙_, subst, eqb}
+use Rattle.facts.proofs.Prelude.{ltb, leb, eqb·zero-suc, eq-eqb, ne-eqb, ltb-true, leb-true, update, by-cases, and-left, and-right}
 use native.Mathlib.Decide.{ℕ-discrete}
-use mathlib.Core.Bool.{true, false, false≢true}
-use mathlib.Core.List.{List, _∷_, map}
-use mathlib.Core.Path.{_≡_, refl, sym, _∙_, subst}
-use lib.Dec.{eqb, ltb, leb, eqb·zero-suc}
-use borrow.Author.Tests.{eq-eqb, ne-eqb, ltb-true, leb-true}
-use Rattle.facts.specs.Lists.{update}
-use Rattle.facts.proofs.Bools.{by-cases, and-left, and-right}
 use Rattle.model.specs.Cover.{inRun, covers}
 use Rattle.classes.specs.declared.Shape.{Shape}
 use Rattle.classes.specs.Shape.{shapeOf}

@@ -1,11 +1,7 @@
 -- A run that is held goes to the arena, on the words as in the model: from a class or from the direct calls.
 --     give-rep      the book afterwards stands for the model's arena, and the run is nobody's
 --     give-valid    number 13's test for it passes
-use Prim.Native.Nat.{ℕ, _+_, _-_, _≤_}
-use native.Mathlib.Omega.{arith}
-use mathlib.Core.Bool.{true}
-use mathlib.Core.List.{List}
-use mathlib.Core.Path.{_≡_, sym, subst}
+use Rattle.facts.proofs.Prelude.{ℕ, _+_, _-_, _≤_, arith, true, List, _≡_, sym, subst}
 use Rattle.model.specs.Cover.{covers}
 use Rattle.fields.specs.Field.{arena, held, get, put}
 use Rattle.model.specs.Arena.{give}

@@ -1,16 +1,8 @@
 -- The classes after a commit for a class: with no run every class is as before; with one, the class has a page more, in no list, and
 -- the others are as before.
-use Prim.Native.Nat.{ℕ, suc, _+_, _≤_}
-use native.Mathlib.Omega.{arith}
+use Rattle.facts.proofs.Prelude.{ℕ, suc, _+_, _≤_, arith, Bool, true, false, cond, not, _&&_, _||_, true≢false, List, [], _∷_, Option, none, some, _≡_, refl, sym}
+use Rattle.facts.proofs.Prelude.{ap, _∙_, subst, eqb, ltb, leb, length, eq-eqb, ne-eqb, le-leb, leb-true, ltb-true, lt-ltb, and-left, and-right, or-left, or-right}
 use native.Mathlib.Decide.{ℕ-discrete}
-use mathlib.Core.Bool.{Bool, true, false, cond, not, _&&_, _||_, true≢false}
-use mathlib.Core.List.{List, [], _∷_}
-use mathlib.Core.Option.{Option, none, some}
-use mathlib.Core.Path.{_≡_, refl, sym, ap, _∙_, subst}
-use lib.Dec.{eqb, ltb, leb}
-use lib.ListN.{length}
-use borrow.Author.Tests.{eq-eqb, ne-eqb, le-leb, leb-true, ltb-true, lt-ltb}
-use Rattle.facts.proofs.Bools.{and-left, and-right, or-left, or-right}
 use Rattle.rules.specs.declared.Limits.{Limits}
 use Rattle.model.specs.Cover.{inRun, covers, coversRun}
 use Rattle.words.specs.Limits.{holeSlots}

@@ -4,16 +4,8 @@
 --     class-now           a class whose row and listed pages are as they were, with other pages in no list
 --     class-kept          a class that is as it was
 --     other-class-kept    what changes only words of class d leaves every other class alone
-use Prim.Native.Nat.{ℕ, suc, _+_, _≤_}
-use native.Mathlib.Omega.{arith}
-use mathlib.Core.Bool.{Bool, true, false, cond}
-use mathlib.Core.List.{List, [], _∷_, _++_}
-use mathlib.Core.Logic.{inl, inr}
-use mathlib.Core.Path.{_≡_, refl, ap, _∙_}
-use lib.Dec.{eqb, ltb, leb, eqb·zero-suc}
-use borrow.Author.Tests.{ne-eqb, lt-ltb, ltb-true}
-use Rattle.facts.proofs.Bools.{by-cases}
-use Rattle.facts.specs.Lists.{All, count}
+use Rattle.facts.proofs.Prelude.{ℕ, suc, _+_, _≤_, arith, Bool, true, false, cond, List, [], _∷_, _++_, inl, inr, _≡_, refl}
+use Rattle.facts.proofs.Prelude.{ap, _∙_, eqb, ltb, leb, eqb·zero-suc, ne-eqb, lt-ltb, ltb-true, All, count, by-cases}
 use Rattle.classes.specs.declared.Shape.{Shape}
 use Rattle.classes.specs.way.Sound.{Sound}
 use Rattle.fields.specs.Field.{ClassField, class, page, partial, owner, next, prev, free, carved, listed, virgin, get, classOff}

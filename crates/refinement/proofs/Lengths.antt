@@ -1,12 +1,5 @@
 -- Every call of a class leaves a book of the same length, where the book stands for a reached heap. n is at most the longest arena.
-use Prim.Native.Nat.{ℕ, suc, _≤_}
-use mathlib.Core.Bool.{true}
-use mathlib.Core.List.{List, [], _∷_}
-use mathlib.Core.Option.{Option, none, some}
-use mathlib.Core.Path.{_≡_, refl, sym, _∙_}
-use lib.Dec.{ltb}
-use lib.ListN.{length}
-use Rattle.facts.proofs.Bools.{by-cases}
+use Rattle.facts.proofs.Prelude.{ℕ, suc, _≤_, true, List, [], _∷_, Option, none, some, _≡_, refl, sym, _∙_, ltb, length, by-cases}
 use Rattle.classes.specs.Shape.{shapeOf}
 use Rattle.classes.proofs.Shapes.{shape-sound}
 use Rattle.fields.specs.Ranges.{maxPages}

@@ -1,16 +1,8 @@
 -- The linked lists after a page came in or went out.
 --     chain-linked, chain-unlinked     the partial list, with a page at its head, and without one of its pages
 --     stack-parked, stack-popped       a store, with a page on top, and without its newest
-use Prim.Native.Nat.{ℕ, zero, suc, _+_, _-_, _<_}
-use native.Mathlib.Omega.{arith}
-use native.Mathlib.Numerals.{add-one}
-use mathlib.Core.Bool.{true, false}
-use mathlib.Core.List.{List, [], _∷_, _++_}
-use mathlib.Core.Logic.{_⊎_, inl, inr, ⊎-elim}
-use mathlib.Core.Path.{_≡_, refl, sym, ap, subst, _∙_}
-use lib.Dec.{eqb, ltb, leb}
-use lib.ListN.{length}
-use borrow.Author.Tests.{ltb-true, lt-ltb, ne-eqb}
+use Rattle.facts.proofs.Prelude.{ℕ, zero, suc, _+_, _-_, _<_, arith, add-one, true, false, List, [], _∷_, _++_, _⊎_, inl, inr}
+use Rattle.facts.proofs.Prelude.{⊎-elim, _≡_, refl, sym, ap, subst, _∙_, eqb, ltb, leb, length, ltb-true, lt-ltb, ne-eqb}
 use Rattle.fields.specs.Field.{class, page, partial, next, prev, words, get}
 use Rattle.fields.proofs.Laws.{get-put-same, get-put-other, length-put}
 use Rattle.fields.proofs.Changes.{Changes}

@@ -3,13 +3,7 @@
 --                      head of the list, and whether q is listed
 --     isParkRun        a store's row, and NEXT of q
 --     LetsLink, LetsParkRun    what a test must let pass for these moves to be changes of that test
-use Prim.Native.Nat.{ℕ, suc}
-use mathlib.Core.Bool.{Bool, true, false, _&&_, _||_}
-use mathlib.Core.List.{List}
-use mathlib.Core.Path.{_≡_, refl}
-use lib.Dec.{eqb, ltb}
-use borrow.Author.Tests.{eq-eqb, ne-eqb}
-use Rattle.facts.proofs.Bools.{or-right}
+use Rattle.facts.proofs.Prelude.{ℕ, suc, Bool, true, false, _&&_, _||_, List, _≡_, refl, eqb, ltb, eq-eqb, ne-eqb, or-right}
 use Rattle.fields.specs.Field.{Field, arena, class, hole, page, mark, slot, out, partial, owner, next, prev, listed, classOff, pageOff, get}
 use Rattle.fields.proofs.Changes.{Changes}
 use Rattle.pages.specs.declared.Park.{Park}

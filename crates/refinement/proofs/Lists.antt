@@ -3,15 +3,7 @@
 --     segment-kept     a segment whose links are as they were
 --     part, join       a segment parted at a page, and two segments joined
 --     in-count, off    membership as a count
-use Prim.Native.Nat.{ℕ, suc, _+_, _≤_}
-use native.Mathlib.Omega.{arith}
-use mathlib.Core.Bool.{cond}
-use mathlib.Core.List.{List, [], _∷_, _++_}
-use mathlib.Core.Logic.{inl, inr}
-use mathlib.Core.Path.{_≡_, refl, sym, ap, subst, _∙_}
-use lib.Dec.{eqb}
-use borrow.Author.Tests.{eq-eqb}
-use Rattle.facts.specs.Lists.{All, count}
+use Rattle.facts.proofs.Prelude.{ℕ, suc, _+_, _≤_, arith, cond, List, [], _∷_, _++_, inl, inr, _≡_, refl, sym, ap, subst, _∙_, eqb, eq-eqb, All, count}
 use Rattle.fields.specs.Field.{page, next, prev, get}
 use Rattle.model.specs.Page.{Page}
 use Rattle.refinement.specs.way.Chain.{In, Distinct, Segment}

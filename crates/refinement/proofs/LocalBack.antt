@@ -1,21 +1,14 @@
 -- A page whose blocks come back, by list or by a chunk, up to the give: that keeps to the class's words.
-use Prim.Native.Nat.{ℕ, _≤_}
-use native.Mathlib.Omega.{arith}
-use mathlib.Core.Bool.{Bool, true, false, not, _&&_}
-use mathlib.Core.List.{List, map}
-use mathlib.Core.Path.{_≡_, refl, ap}
-use lib.Dec.{eqb}
+use Rattle.facts.proofs.Prelude.{ℕ, _≤_, arith, Bool, true, false, not, _&&_, List, map, _≡_, refl, ap, eqb, every, count, by-cases}
 use Rattle.words.specs.Host.{discardZeroed}
 use Rattle.classes.specs.declared.Shape.{Shape}
 use Rattle.fields.specs.Field.{class, page, partial, emptyCount, coldCount, emptyLimit, coldLimit, next, prev, free, carved, listed, get}
 use Rattle.fields.specs.Ranges.{maxPages}
 use Rattle.fields.proofs.Laws.{get-put-other}
-use Rattle.facts.specs.Lists.{every, count}
 use Rattle.model.specs.Page.{Page, isMedium, isOut}
 use Rattle.model.specs.declared.Destination.{Destination}
 use Rattle.model.specs.declared.Destination.the-variants.{ToEmpty, ToCold, ToArena}
 use Rattle.model.specs.Release.{Site}
-use Rattle.facts.proofs.Bools.{by-cases}
 use Rattle.pages.specs.Stack.{back, indexOf}
 use Rattle.pages.specs.declared.Park.the-variants.{Empty, Cold}
 use Rattle.pages.specs.Carve.{carvedAtOnce, carveAnew}

@@ -1,14 +1,8 @@
 -- A group release on two books that stand for one state of its class: refused on both, or settled alike.
 --     chunks-in      the chunks in order
 --     group-local    the release keeps to the class's words, and the arena's where it gives
-use Prim.Native.Nat.{ℕ, _+_, _≤_, _<_}
-use native.Mathlib.Omega.{arith}
-use mathlib.Core.Bool.{Bool, true, false}
-use mathlib.Core.List.{List, [], _∷_, _++_, map}
-use mathlib.Core.Logic.{_⊎_}
-use mathlib.Core.Path.{_≡_, refl, subst}
-use lib.Dec.{ltb, leb}
-use borrow.Author.Tests.{leb-true, ltb-true}
+use Rattle.facts.proofs.Prelude.{ℕ, _+_, _≤_, _<_, arith, Bool, true, false, List, [], _∷_, _++_, map, _⊎_, _≡_, refl}
+use Rattle.facts.proofs.Prelude.{subst, ltb, leb, leb-true, ltb-true, All, every, distinct, and-left, and-right}
 use Rattle.words.specs.Word.{pageOf}
 use Rattle.classes.specs.declared.Shape.{Shape}
 use Rattle.classes.specs.Shape.{smallShape, shapeOf}
@@ -16,7 +10,6 @@ use Rattle.rules.specs.declared.Limits.{Limits}
 use Rattle.fields.specs.Field.{page, first}
 use Rattle.fields.specs.Ranges.{maxPages}
 use Rattle.fields.proofs.Changes.{changes-none}
-use Rattle.facts.specs.Lists.{All, every, distinct}
 use Rattle.model.specs.Calls.{fates}
 use Rattle.model.specs.Page.{Page, isMedium}
 use Rattle.model.specs.Class.{Class}
@@ -24,7 +17,6 @@ use Rattle.model.specs.Release.{Settled}
 use Rattle.model.specs.Chunks as Model
 use Rattle.model.specs.Heap.{Heap}
 use Rattle.model.specs.Demands.{StaysHome}
-use Rattle.facts.proofs.Bools.{and-left, and-right}
 use Rattle.pages.specs.Runs.{whole}
 use Rattle.pages.specs.Stack.{indexOf, pageAt}
 use Rattle.calls.specs.Out.{startOf, inRunOf, outAt}

@@ -1,20 +1,11 @@
 -- A class's moves and its filling keep to the class's words.
 --     Home S n b c sh    S has the words of the class's row and of the first page of each of its runs
 --     .. -local          a step on two books put together is the step, put together with the same words
-use Prim.Native.Nat.{ℕ, zero, suc, _+_, _-_, _≤_}
-use native.Mathlib.Omega.{arith}
-use mathlib.Core.Bool.{Bool, true}
-use mathlib.Core.List.{List, [], _∷_, _++_, map}
-use mathlib.Core.Path.{_≡_, refl, sym, ap, _∙_}
-use lib.Dec.{eqb}
-use lib.ListN.{length}
-use borrow.Author.Tests.{eqb-true}
+use Rattle.facts.proofs.Prelude.{ℕ, zero, suc, _+_, _-_, _≤_, arith, Bool, true, List, [], _∷_, _++_, map, _≡_, refl, sym, ap, _∙_, eqb, length, eqb-true, every, by-cases}
 use Rattle.classes.specs.declared.Shape.{Shape}
 use Rattle.fields.specs.Field.{class, page, partial, next, prev, free, virgin, get}
-use Rattle.facts.specs.Lists.{every}
 use Rattle.model.specs.Page.{Page, pop, wordOf}
 use Rattle.model.proofs.Used.{itself}
-use Rattle.facts.proofs.Bools.{by-cases}
 use Rattle.pages.specs.Runs.{whole}
 use Rattle.pages.specs.Stack.{latest, draw, hasMore}
 use Rattle.pages.specs.Links.{link, unlink, parkRun, popStore, unparkRun}

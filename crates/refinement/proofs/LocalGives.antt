@@ -2,15 +2,7 @@
 --     gives-local     one run after the other
 --     Roams           what a call may touch that reaches the arena
 --     runs-local      the runs of a release, which stays at home or may roam
-use Prim.Native.Nat.{ℕ, suc, _≤_}
-use native.Mathlib.Omega.{arith}
-use mathlib.Core.Bool.{Bool, true, cond}
-use mathlib.Core.List.{List, [], _∷_}
-use mathlib.Core.Logic.{_⊎_, inl, inr}
-use mathlib.Core.Path.{_≡_, refl, sym, ap, _∙_}
-use lib.Dec.{eqb}
-use lib.ListN.{length}
-use Rattle.facts.proofs.Bools.{by-cases}
+use Rattle.facts.proofs.Prelude.{ℕ, suc, _≤_, arith, Bool, true, cond, List, [], _∷_, _⊎_, inl, inr, _≡_, refl, sym, ap, _∙_, eqb, length, by-cases}
 use Rattle.words.specs.Limits.{holeSlots}
 use Rattle.classes.specs.Shape.{shapeOf}
 use Rattle.classes.proofs.Shapes.{shape-sound}

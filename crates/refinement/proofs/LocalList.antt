@@ -1,12 +1,6 @@
 -- A release by list on two books that stand for one state of its class: refused on both, or settled alike.
 --     list-local     the release keeps to the class's words, and the arena's where it gives
-use Prim.Native.Nat.{ℕ, _≤_}
-use mathlib.Core.Bool.{Bool, true}
-use mathlib.Core.Logic.{_⊎_}
-use mathlib.Core.List.{List, [], _∷_}
-use mathlib.Core.Path.{_≡_, refl, ap}
-use lib.Dec.{ltb}
-use borrow.Author.Tests.{ne-eqb}
+use Rattle.facts.proofs.Prelude.{ℕ, _≤_, Bool, true, List, [], _∷_, _⊎_, _≡_, refl, ap, ltb, ne-eqb}
 use Rattle.classes.specs.Shape.{shapeOf}
 use Rattle.fields.specs.Ranges.{maxPages}
 use Rattle.model.specs.Class.{done}

@@ -1,13 +1,6 @@
 -- A take that asks the arena keeps to the class's words, the arena's, and those of the pages that nobody holds.
-use Prim.Native.Nat.{ℕ, suc, _+_, _-_, _<_}
-use native.Mathlib.Omega.{arith}
+use Rattle.facts.proofs.Prelude.{ℕ, suc, _+_, _-_, _<_, arith, Bool, true, List, [], _∷_, Option, none, some, _≡_, refl, sym, _∙_, subst, ltb, le-leb, lt-ltb}
 use native.Mathlib.Decide.{ℕ-discrete}
-use mathlib.Core.Bool.{Bool, true}
-use mathlib.Core.List.{List, [], _∷_}
-use mathlib.Core.Option.{Option, none, some}
-use mathlib.Core.Path.{_≡_, refl, sym, _∙_, subst}
-use lib.Dec.{ltb}
-use borrow.Author.Tests.{le-leb, lt-ltb}
 use Rattle.classes.specs.Shape.{shapeOf}
 use Rattle.classes.proofs.Shapes.{shape-sound}
 use Rattle.fields.specs.Field.{arena, frontier}

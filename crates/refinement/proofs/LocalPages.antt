@@ -1,18 +1,9 @@
 -- The steps on a class's pages keep to the words of its row and of those pages: each is the same step on two books put together, with
 -- the other words as they were. S has the words of the row of c and of page q.
-use Prim.Native.Nat.{ℕ, zero, suc, _+_, _≤_}
-use native.Mathlib.Omega.{arith}
-use mathlib.Core.Bool.{Bool, true}
-use mathlib.Core.List.{List, [], _∷_}
-use mathlib.Core.Path.{_≡_, refl}
-use lib.Dec.{eqb}
-use lib.ListN.{length}
-use borrow.Author.Tests.{ltb-true, eqb-true}
+use Rattle.facts.proofs.Prelude.{ℕ, zero, suc, _+_, _≤_, arith, Bool, true, List, [], _∷_, _≡_, refl, eqb, length, ltb-true, eqb-true, every, by-cases, and-left, and-right}
 use Rattle.classes.specs.declared.Shape.{Shape}
 use Rattle.fields.specs.Field.{PageField, class, page, partial, next, prev, free, listed, get}
 use Rattle.fields.specs.Outcome.{putAt}
-use Rattle.facts.specs.Lists.{every}
-use Rattle.facts.proofs.Bools.{by-cases, and-left, and-right}
 use Rattle.pages.specs.Stack.{topEntries, descending, setOuts, latest, draw, hasMore, push, pushed, back}
 use Rattle.pages.specs.declared.Park.{Park}
 use Rattle.pages.specs.Links.{pointNext, linked, cutOut, link, unlink, parkRun, popStore}

@@ -2,15 +2,7 @@
 -- home, leave the same book in either order. n is at most the longest arena.
 --     reply-local     a class's call on two books put together, from one state of the class
 --     books           the two orders
-use Prim.Native.Nat.{ℕ, suc, _≤_, _<_}
-use native.Mathlib.Omega.{arith}
-use mathlib.Core.Bool.{Bool, true, false}
-use mathlib.Core.List.{List, []}
-use mathlib.Core.Logic.{_⊎_, inl, inr}
-use mathlib.Core.Path.{_≡_, refl, sym, _∙_, subst}
-use lib.Dec.{eqb, ltb}
-use lib.ListN.{length}
-use borrow.Author.Tests.{eqb-false}
+use Rattle.facts.proofs.Prelude.{ℕ, suc, _≤_, _<_, arith, Bool, true, false, List, [], _⊎_, inl, inr, _≡_, refl, sym, _∙_, subst, eqb, ltb, length, eqb-false, by-cases}
 use Rattle.classes.specs.Shape.{shapeOf}
 use Rattle.classes.proofs.Shapes.{shape-sound}
 use Rattle.fields.specs.Ranges.{maxPages}
@@ -23,7 +15,6 @@ use Rattle.model.specs.Chunks.{answer}
 use Rattle.model.specs.Heap.{Heap, nobody, offer, finish, interact, classCall}
 use Rattle.model.specs.Demands.{StaysHome, stays}
 use Rattle.model.specs.Yields.{Listed}
-use Rattle.facts.proofs.Bools.{by-cases}
 use Rattle.model.proofs.Update.{other-way, update-other}
 use Rattle.arena.specs.Owners.{ownerCode}
 use Rattle.pages.specs.Runs.{whole}

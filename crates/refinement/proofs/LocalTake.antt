@@ -1,18 +1,11 @@
 -- A take from the class's own pages keeps to the class's words.
-use Prim.Native.Nat.{ℕ}
-use mathlib.Core.Bool.{Bool, true, false, true≢false}
-use mathlib.Core.Logic.{_⊎_, inl, inr}
-use mathlib.Core.List.{List, [], _∷_, map}
-use mathlib.Core.Path.{_≡_, refl, sym}
-use lib.Dec.{ltb}
-use lib.ListN.{length}
+use Rattle.facts.proofs.Prelude.{ℕ, Bool, true, false, true≢false, List, [], _∷_, map, _⊎_, inl, inr, _≡_, refl, sym, ltb, length, by-cases}
 use Rattle.classes.specs.declared.Shape.{Shape}
 use Rattle.fields.specs.Field.{arena, partial, frontier, get}
 use Rattle.model.specs.Page.{Page, reused}
 use Rattle.model.specs.Class as Model
 use Rattle.model.specs.Class.{Class, Ask, done, asks, lists, thawed, takeFrom}
 use Rattle.model.specs.Demands.{StaysHome, stays}
-use Rattle.facts.proofs.Bools.{by-cases}
 use Rattle.pages.specs.declared.Park.the-variants.{Cold}
 use Rattle.calls.specs.Take.{takeNew, takeBlocks, takeCall}
 use Rattle.refinement.specs.way.Represents.{StateRep}

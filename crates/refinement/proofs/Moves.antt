@@ -3,15 +3,7 @@
 --     from-partial, to-partial         out of the partial list, from any place, and to its head
 --     from-store, to-store             off a store's top, and onto it
 --     swap, full-out, full-in          the two stores' parts exchanged; the order of pages in no list does not matter
-use Prim.Native.Nat.{ℕ, suc, _+_, _≤_, _<_}
-use native.Mathlib.Omega.{arith}
-use mathlib.Core.Bool.{true, cond}
-use mathlib.Core.List.{List, [], _∷_, _++_}
-use mathlib.Core.Path.{_≡_, refl, sym, ap, _∙_}
-use lib.Dec.{eqb, ltb, leb}
-use lib.ListN.{length}
-use borrow.Author.Tests.{ne-eqb, eq-eqb}
-use Rattle.facts.specs.Lists.{All, count}
+use Rattle.facts.proofs.Prelude.{ℕ, suc, _+_, _≤_, _<_, arith, true, cond, List, [], _∷_, _++_, _≡_, refl, sym, ap, _∙_, eqb, ltb, leb, length, ne-eqb, eq-eqb, All, count}
 use Rattle.classes.specs.declared.Shape.{Shape}
 use Rattle.classes.specs.way.Sound.{Sound}
 use Rattle.fields.specs.Field.{class, page, partial, owner, next, prev, listed, get, put, words}

@@ -2,12 +2,7 @@
 --     each-listed     of every page in a list
 --     each-head       of the page that heads the partial list
 --     each-beside     of the pages behind and before a page of the partial list
-use Prim.Native.Nat.{ℕ, suc, _+_, _≤_}
-use native.Mathlib.Omega.{arith}
-use mathlib.Core.Bool.{true}
-use mathlib.Core.List.{List, _∷_, _++_}
-use mathlib.Core.Logic.{inr}
-use mathlib.Core.Path.{_≡_, sym, _∙_, subst}
+use Rattle.facts.proofs.Prelude.{ℕ, suc, _+_, _≤_, arith, true, List, _∷_, _++_, inr, _≡_, sym, _∙_, subst}
 use Rattle.classes.specs.declared.Shape.{Shape}
 use Rattle.classes.specs.way.Sound.{Sound}
 use Rattle.fields.specs.Field.{class, page, partial, next, prev, get}

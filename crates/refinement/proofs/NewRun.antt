@@ -2,13 +2,7 @@
 --     new-changes     which fields are written
 --     new-names       every page of the run names its first
 --     new-rep         the run is a page with no block out, in no list, carved as the model carves it
-use Prim.Native.Nat.{ℕ, _+_, _≤_, _<_}
-use mathlib.Core.Bool.{Bool, true}
-use mathlib.Core.List.{List}
-use mathlib.Core.Path.{_≡_}
-use lib.Dec.{ltb}
-use borrow.Author.Tests.{ltb-true}
-use Rattle.facts.proofs.Bools.{by-cases}
+use Rattle.facts.proofs.Prelude.{ℕ, _+_, _≤_, _<_, Bool, true, List, _≡_, ltb, ltb-true, by-cases}
 use Rattle.classes.specs.declared.Shape.{Shape}
 use Rattle.fields.specs.Field.{Field, page, mark, slot, out, first, free, carved, listed, virgin, get}
 use Rattle.fields.proofs.Changes.{Changes}

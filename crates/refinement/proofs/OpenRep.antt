@@ -2,17 +2,8 @@
 --     opened-rep           the arena's part
 --     opened-class         the part of every class
 --     opened-represents    the whole
-use Prim.Native.Nat.{ℕ, zero, suc, _+_, _≤_, _<_}
-use native.Mathlib.Omega.{arith}
-use mathlib.Core.Bool.{Bool, true, false, _&&_}
-use mathlib.Core.List.{List}
-use mathlib.Core.Path.{_≡_, refl, sym, ap, _∙_}
-use lib.Dec.{eqb, ltb, leb}
-use lib.ListN.{length, getD, length-set}
-use lib.Seq.{getD-set-same, getD-set-other}
-use borrow.Author.Tests.{eqb-true, eqb-false, leb-true, lt-leb, ltb-true, lt-ltb}
-use Rattle.facts.specs.Lists.{total, below}
-use Rattle.facts.proofs.Bools.{by-cases, and-no}
+use Rattle.facts.proofs.Prelude.{ℕ, zero, suc, _+_, _≤_, _<_, arith, Bool, true, false, _&&_, List, _≡_, refl, sym, ap, _∙_, eqb, ltb, leb, length, getD}
+use Rattle.facts.proofs.Prelude.{length-set, getD-set-same, getD-set-other, eqb-true, eqb-false, leb-true, lt-leb, ltb-true, lt-ltb, total, below, by-cases, and-no}
 use Rattle.classes.specs.Shape.{shapeOf}
 use Rattle.classes.proofs.Shapes.{shape-sound}
 use Rattle.rules.specs.declared.Limits.{Limits}

@@ -1,15 +1,8 @@
 -- A release's tests of its blocks on the words are the model's, since no mark of a run is set.
 --     run-unmarked    no mark of a run of the class is set
 --     fault-same      numbers 13 for a mark, 15 and 10: the first never, the others as the model has them
-use Prim.Native.Nat.{ℕ, _+_, _/_, _≤_, _<_}
-use native.Mathlib.Omega.{arith}
-use mathlib.Core.Bool.{true, false, cond, not}
-use mathlib.Core.List.{List, [], _∷_, map}
-use mathlib.Core.Path.{_≡_, refl, ap, subst}
-use lib.Dec.{leb, ltb}
-use borrow.Author.Tests.{eq-eqb, leb-true, leb-false, ltb-true}
-use Rattle.facts.specs.Lists.{filter, every, All, distinct}
-use Rattle.facts.proofs.Bools.{by-cases, and-left, and-right}
+use Rattle.facts.proofs.Prelude.{ℕ, _+_, _/_, _≤_, _<_, arith, true, false, cond, not, List, [], _∷_, map, _≡_, refl, ap, subst, leb}
+use Rattle.facts.proofs.Prelude.{ltb, eq-eqb, leb-true, leb-false, ltb-true, filter, every, All, distinct, by-cases, and-left, and-right}
 use Rattle.words.specs.Host.{digit}
 use Rattle.classes.specs.declared.Shape.{Shape}
 use Rattle.fields.specs.Field.{mark, get}

@@ -4,15 +4,8 @@
 --     get-in, put-in a read and a write of a field that lies in S
 --     PageIn, RowIn  a page's words that have a field lie in S, its pair too; those of a class's row do
 --     swapped        two steps, one that keeps to S and one that keeps to the other words, may change places
-use Prim.Native.Nat.{ℕ, zero, suc, _+_, _*_, _/_, _<_}
-use native.Mathlib.Omega.{arith}
-use mathlib.Core.Bool.{Bool, true, false, cond, not}
-use mathlib.Core.List.{List, [], _∷_}
-use mathlib.Core.Path.{_≡_, refl, sym, ap, _∙_}
-use lib.Dec.{ltb}
-use lib.ListN.{length, getD, set, drop}
-use borrow.Author.Tests.{ltb-true}
-use Rattle.facts.proofs.Bools.{by-cases}
+use Rattle.facts.proofs.Prelude.{ℕ, zero, suc, _+_, _*_, _/_, _<_, arith, Bool, true, false, cond, not, List, []}
+use Rattle.facts.proofs.Prelude.{_∷_, _≡_, refl, sym, ap, _∙_, ltb, length, getD, set, drop, ltb-true, by-cases}
 use Rattle.fields.specs.Field.{Field, ClassField, PageField, class, page, mark, slot, out, classOff, pageOff, pair, part, place, read, word, get, put}
 use Rattle.fields.proofs.Laws.{classOff-lt, pageOff-lt}
 

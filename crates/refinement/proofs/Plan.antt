@@ -2,16 +2,8 @@
 --     page-sound      a page of the class that has a block is in its ranges
 --     walk-passes     the walk over the partial list
 --     park-passes     the newest page of a store
-use Prim.Native.Nat.{ℕ, zero, suc, _+_, _-_, _≤_}
-use native.Mathlib.Omega.{arith}
-use mathlib.Core.Bool.{Bool, true, not}
-use mathlib.Core.List.{List, [], _∷_, map}
-use mathlib.Core.Path.{_≡_, refl, ap, _∙_}
-use lib.Dec.{eqb, ltb, leb}
-use lib.ListN.{length, take}
-use borrow.Author.Tests.{eq-eqb, ne-eqb, ltb-false, le-leb, lt-ltb}
-use Rattle.facts.specs.Lists.{isNil, All, count}
-use Rattle.facts.proofs.Bools.{by-cases, or-left, or-right}
+use Rattle.facts.proofs.Prelude.{ℕ, zero, suc, _+_, _-_, _≤_, arith, Bool, true, not, List, [], _∷_, map, _≡_, refl, ap, _∙_, eqb, ltb, leb}
+use Rattle.facts.proofs.Prelude.{length, take, eq-eqb, ne-eqb, ltb-false, le-leb, lt-ltb, isNil, All, count, by-cases, or-left, or-right}
 use Rattle.classes.specs.declared.Shape.{Shape}
 use Rattle.classes.specs.way.Sound.{Sound}
 use Rattle.fields.specs.Field.{arena, class, page, free, carved, next, frontier, get}

@@ -2,16 +2,8 @@
 --     push-slots     the stack with a list pushed on it
 --     anew-holds     a run that has no block out, carved anew
 --     carve-rep      it is the model's carved page
-use Prim.Native.Nat.{ℕ, suc, _+_, _≤_, _<_}
-use native.Mathlib.Omega.{arith}
-use mathlib.Core.Bool.{Bool, true, false, cond}
-use mathlib.Core.List.{List, [], _∷_, _++_, append-nil}
-use mathlib.Core.Path.{_≡_, refl, sym, ap, _∙_, subst}
-use lib.Dec.{eqb, ltb}
-use lib.ListN.{length, length-append}
-use borrow.Author.Tests.{lt-ltb, ltb-true, eq-eqb, ne-eqb}
-use Rattle.facts.specs.Lists.{every}
-use Rattle.facts.proofs.Bools.{and-left, and-right}
+use Rattle.facts.proofs.Prelude.{ℕ, suc, _+_, _≤_, _<_, arith, Bool, true, false, cond, List, [], _∷_, _++_, append-nil, _≡_, refl, sym, ap}
+use Rattle.facts.proofs.Prelude.{_∙_, subst, eqb, ltb, length, length-append, lt-ltb, ltb-true, eq-eqb, ne-eqb, every, and-left, and-right}
 use Rattle.classes.specs.declared.Shape.{Shape}
 use Rattle.fields.specs.Field.{Field, page, mark, slot, out, owner, free, carved, listed, virgin, get}
 use Rattle.fields.proofs.Laws.{get-put-same, get-put-other, length-put}

@@ -3,16 +3,8 @@
 --     park-rep          a page with none out goes to the empty store, the cold one, or the arena
 --     settle-list       blocks come back by list
 --     settle-chunk      blocks come back by a chunk: a page with none out is retired
-use Prim.Native.Nat.{ℕ, suc, _+_, _*_, _≤_, _<_}
-use native.Mathlib.Omega.{arith}
-use mathlib.Core.Bool.{Bool, true, false, cond, not, _&&_}
-use mathlib.Core.List.{List, [], _∷_, _++_, map}
-use mathlib.Core.Path.{_≡_, refl, sym, ap, _∙_, subst}
-use lib.Dec.{eqb, ltb, leb}
-use lib.ListN.{length}
-use borrow.Author.Tests.{ltb-true}
-use Rattle.facts.specs.Lists.{every, count}
-use Rattle.facts.proofs.Bools.{by-cases, and-left}
+use Rattle.facts.proofs.Prelude.{ℕ, suc, _+_, _*_, _≤_, _<_, arith, Bool, true, false, cond, not, _&&_, List, [], _∷_, _++_, map}
+use Rattle.facts.proofs.Prelude.{_≡_, refl, sym, ap, _∙_, subst, eqb, ltb, leb, length, ltb-true, every, count, by-cases, and-left}
 use Rattle.words.specs.Host.{discardZeroed}
 use Rattle.classes.specs.declared.Shape.{Shape}
 use Rattle.rules.specs.declared.Limits.{Limits}

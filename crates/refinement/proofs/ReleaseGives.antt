@@ -2,16 +2,8 @@
 --     Acts          what a class's call settled, and the runs that it gives
 --     all-given     the book after the gives
 --     all-held      so many pages are held before them
-use Prim.Native.Nat.{ℕ, _+_, _*_, _≤_}
-use native.Mathlib.Omega.{arith}
-use mathlib.Core.Bool.{cond}
-use mathlib.Core.List.{List, [], _∷_, _++_}
-use mathlib.Core.Path.{_≡_, refl, sym, subst, fun-ext}
-use lib.Dec.{eqb}
-use lib.ListN.{length}
-use borrow.Author.Tests.{eq-eqb, eqb-true, eqb-false, ne-eqb}
-use Rattle.facts.specs.Lists.{update}
-use Rattle.facts.proofs.Bools.{by-cases}
+use Rattle.facts.proofs.Prelude.{ℕ, _+_, _*_, _≤_, arith, cond, List, [], _∷_, _++_, _≡_, refl, sym, subst}
+use Rattle.facts.proofs.Prelude.{fun-ext, eqb, length, eq-eqb, eqb-true, eqb-false, ne-eqb, update, by-cases}
 use Rattle.model.specs.Cover.{covers, coversAll}
 use Rattle.classes.specs.Shape.{shapeOf}
 use Rattle.classes.proofs.Shapes.{shape-sound}

@@ -2,15 +2,7 @@
 --     row-valid         the class's row
 --     page-valid        a page with blocks out, of which some come back
 --     release-valid     all that a release by list tests
-use Prim.Native.Nat.{ℕ, zero, suc, _+_, _≤_}
-use native.Mathlib.Omega.{arith}
-use mathlib.Core.Bool.{Bool, true, false, cond, _&&_}
-use mathlib.Core.List.{List, [], _∷_, _++_}
-use mathlib.Core.Logic.{inl}
-use mathlib.Core.Path.{_≡_, refl, ap}
-use lib.Dec.{eqb, leb}
-use lib.ListN.{length}
-use borrow.Author.Tests.{le-leb}
+use Rattle.facts.proofs.Prelude.{ℕ, zero, suc, _+_, _≤_, arith, Bool, true, false, cond, _&&_, List, [], _∷_, _++_, inl, _≡_, refl, ap, eqb, leb, length, le-leb}
 use Rattle.classes.specs.declared.Shape.{Shape}
 use Rattle.classes.specs.Shape.{shapeOf}
 use Rattle.classes.proofs.Shapes.{shape-sound}

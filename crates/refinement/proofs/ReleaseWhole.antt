@@ -4,17 +4,8 @@
 --     release-rep       refused by both with one number, or settled alike
 --     release-whole     every release by list, refused or not, of any fate, the give included
 --     release-after     the same after any history
-use Prim.Native.Nat.{ℕ, _≤_}
-use native.Mathlib.Omega.{arith}
-use mathlib.Core.Bool.{Bool, true, false, cond, not}
-use mathlib.Core.List.{List, [], _∷_, map}
-use mathlib.Core.Option.{some}
-use mathlib.Core.Path.{_≡_, refl, sym, ap, _∙_}
-use lib.Dec.{eqb, ltb}
-use lib.ListN.{length}
-use borrow.Author.Tests.{ne-eqb, not-false}
-use Rattle.facts.specs.Lists.{every, distinct, count}
-use Rattle.facts.proofs.Bools.{by-cases, and-left}
+use Rattle.facts.proofs.Prelude.{ℕ, _≤_, arith, Bool, true, false, cond, not, List, [], _∷_, map, some, _≡_, refl, sym}
+use Rattle.facts.proofs.Prelude.{ap, _∙_, eqb, ltb, length, ne-eqb, not-false, every, distinct, count, by-cases, and-left}
 use Rattle.classes.specs.Shape.{shapeOf}
 use Rattle.rules.specs.declared.Limits.{Limits}
 use Rattle.rules.specs.Rules.{Rules}

@@ -4,15 +4,7 @@
 --     past-ten       numbers 15 and 10
 --     Ends           refused with the model's number, or settled and the runs given; a take that asks no run ends so too
 --     ends-agree     the answer is the model's and never number 13, and the book stands for the model's next heap
-use Prim.Native.Nat.{ℕ, _≤_}
-use native.Mathlib.Omega.{arith}
-use mathlib.Core.Bool.{Bool, true, false, cond, not, _||_}
-use mathlib.Core.List.{List}
-use mathlib.Core.Path.{_≡_, refl, _∙_}
-use lib.Dec.{eqb}
-use borrow.Author.Tests.{eqb-false}
-use Rattle.facts.specs.Lists.{every, distinct}
-use Rattle.facts.proofs.Bools.{by-cases, nor-left, nor-right}
+use Rattle.facts.proofs.Prelude.{ℕ, _≤_, arith, Bool, true, false, cond, not, _||_, List, _≡_, refl, _∙_, eqb, eqb-false, every, distinct, by-cases, nor-left, nor-right}
 use Rattle.classes.specs.Shape.{shapeOf}
 use Rattle.fields.specs.Ranges.{maxPages}
 use Rattle.fields.proofs.Changes.{changes-none}

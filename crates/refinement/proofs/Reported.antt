@@ -1,14 +1,5 @@
 -- The runs that the words say are parked are the model's: a report's counts are in their ranges, and their pages are as many.
-use Prim.Native.Nat.{ℕ, zero, suc, _*_, _<_}
-use native.Mathlib.Omega.{arith}
-use mathlib.Core.Bool.{true}
-use mathlib.Core.List.{List}
-use mathlib.Core.Path.{_≡_, refl, _∙_}
-use lib.Dec.{ltb}
-use lib.ListN.{length}
-use borrow.Author.Tests.{le-leb, lt-ltb}
-use Rattle.facts.specs.Lists.{total, below}
-use Rattle.facts.proofs.Lists.{every-of}
+use Rattle.facts.proofs.Prelude.{ℕ, zero, suc, _*_, _<_, arith, true, List, _≡_, refl, _∙_, ltb, length, le-leb, lt-ltb, total, below, every-of}
 use Rattle.classes.specs.Shape.{shapeOf, classCount}
 use Rattle.fields.specs.Field.{class, emptyCount, coldCount, get}
 use Rattle.fields.specs.Ranges.{maxParked}

@@ -3,16 +3,8 @@
 --     none-is          no block is out exactly if FREE is CARVED; none-idle: then no out bit is set
 --     return-rep       the page afterwards is the model's
 --     emptied-rep      a page with none out, its blocks forgotten
-use Prim.Native.Nat.{ℕ, suc, _+_, _≤_}
-use native.Mathlib.Omega.{arith}
-use mathlib.Core.Bool.{Bool, true, false, cond, not, true≢false}
-use mathlib.Core.List.{List, [], _∷_, _++_, map}
-use mathlib.Core.Path.{_≡_, refl, sym, ap, _∙_}
-use lib.Dec.{eqb, ltb, leb}
-use lib.ListN.{length, length-append}
-use borrow.Author.Tests.{lt-ltb, eq-eqb, eqb-true, eqb-false, leb-true, leb-false, not-true}
-use Rattle.facts.specs.Lists.{every, elem, count}
-use Rattle.facts.proofs.Bools.{by-cases, and-left, and-right}
+use Rattle.facts.proofs.Prelude.{ℕ, suc, _+_, _≤_, arith, Bool, true, false, cond, not, true≢false, List, [], _∷_, _++_, map, _≡_, refl, sym, ap, _∙_, eqb, ltb, leb, length}
+use Rattle.facts.proofs.Prelude.{length-append, lt-ltb, eq-eqb, eqb-true, eqb-false, leb-true, leb-false, not-true, every, elem, count, by-cases, and-left, and-right}
 use Rattle.classes.specs.declared.Shape.{Shape}
 use Rattle.fields.specs.Field.{Field, page, mark, slot, out, owner, free, carved, listed, virgin, region, get, put}
 use Rattle.fields.specs.Ranges.{maxPages}

@@ -1,11 +1,5 @@
 -- What a take comes to, source by source, on a book that stands for the class's state: number 13's tests pass.
-use Prim.Native.Nat.{ℕ, suc}
-use native.Mathlib.Omega.{arith}
-use mathlib.Core.Bool.{false}
-use mathlib.Core.List.{List, [], _∷_, map}
-use mathlib.Core.Path.{_≡_}
-use lib.Dec.{ltb}
-use borrow.Author.Tests.{ne-eqb}
+use Rattle.facts.proofs.Prelude.{ℕ, suc, arith, false, List, [], _∷_, map, _≡_, ltb, ne-eqb}
 use Rattle.classes.specs.declared.Shape.{Shape}
 use Rattle.fields.specs.Field.{arena, class, partial, frontier, get}
 use Rattle.model.specs.Page.{Page, reused}

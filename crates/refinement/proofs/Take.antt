@@ -1,10 +1,5 @@
 -- A take from the class's own pages: on a represented book 13 never answers, and answer and book are the model's.
-use Prim.Native.Nat.{ℕ}
-use native.Mathlib.Omega.{arith}
-use mathlib.Core.Bool.{false}
-use mathlib.Core.List.{List, [], _∷_, map}
-use mathlib.Core.Path.{_≡_, refl}
-use lib.Dec.{ltb}
+use Rattle.facts.proofs.Prelude.{ℕ, arith, false, List, [], _∷_, map, _≡_, refl, ltb}
 use Rattle.classes.specs.declared.Shape.{Shape}
 use Rattle.fields.specs.Field.{arena, class, frontier, get}
 use Rattle.model.specs.Calls.{taken}

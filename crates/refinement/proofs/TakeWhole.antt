@@ -3,17 +3,8 @@
 --     take-new       a take that asks the arena, with a run or none
 --     take-whole     every take, refused or not, from any source
 --     take-after     the same after any history
-use Prim.Native.Nat.{ℕ, zero, suc, _≤_}
-use native.Mathlib.Omega.{arith}
-use mathlib.Core.Bool.{Bool, true, false, not, _||_}
-use mathlib.Core.List.{List, [], _∷_, _++_}
-use mathlib.Core.Option.{Option, none, some}
-use mathlib.Core.Path.{_≡_, refl, sym, subst}
-use lib.Dec.{ltb}
-use lib.ListN.{length}
-use borrow.Author.Tests.{lt-ltb}
-use Rattle.facts.specs.Lists.{isNil, update}
-use Rattle.facts.proofs.Bools.{by-cases}
+use Rattle.facts.proofs.Prelude.{ℕ, zero, suc, _≤_, arith, Bool, true, false, not, _||_, List, [], _∷_, _++_, Option}
+use Rattle.facts.proofs.Prelude.{none, some, _≡_, refl, sym, subst, ltb, length, lt-ltb, isNil, update, by-cases}
 use Rattle.rules.specs.Rules.{Rules}
 use Rattle.model.specs.Cover.{covers}
 use Rattle.classes.specs.declared.Shape.{Shape}

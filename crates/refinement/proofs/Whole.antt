@@ -3,15 +3,7 @@
 --     run-answers        a history's answers are the model's, from an opening on any book that is long enough, with rules in their range
 --     run-represents     the book after it stands for the model's heap
 --     run-valid          number 13 is never answered
-use Prim.Native.Nat.{ℕ, _+_, _≤_}
-use native.Mathlib.Omega.{arith}
-use mathlib.Core.Bool.{true}
-use mathlib.Core.List.{List, [], _∷_, _++_, map}
-use mathlib.Core.Path.{_≡_, refl, sym, subst}
-use lib.Dec.{ltb, leb}
-use lib.ListN.{length}
-use Rattle.facts.specs.Lists.{All}
-use Rattle.facts.proofs.Bools.{by-cases}
+use Rattle.facts.proofs.Prelude.{ℕ, _+_, _≤_, arith, true, List, [], _∷_, _++_, map, _≡_, refl, sym, subst, ltb, leb, length, All, by-cases}
 use Rattle.words.specs.Host.{badHost}
 use Rattle.rules.specs.Rules.{Rules, Fit}
 use Rattle.fields.specs.Field.{words}

@@ -1,13 +1,6 @@
 -- The listed blocks come back to their page, and the arena is the last step.
-use Prim.Native.Nat.{ℕ, _+_, _≤_, _<_}
-use native.Mathlib.Omega.{arith}
-use mathlib.Core.Bool.{Bool, true, false, cond, not, _&&_, _||_}
-use mathlib.Core.List.{List, map}
-use mathlib.Core.Path.{_≡_, refl, sym, ap, _∙_}
-use lib.Dec.{eqb, leb}
-use lib.ListN.{length, length-map}
-use borrow.Author.Tests.{leb-true, eqb-true, le-leb, lt-ltb, eq-eqb, ne-eqb}
-use Rattle.facts.proofs.Bools.{and-left, and-right}
+use Rattle.facts.proofs.Prelude.{ℕ, _+_, _≤_, _<_, arith, Bool, true, false, cond, not, _&&_, _||_, List, map, _≡_, refl, sym, ap, _∙_}
+use Rattle.facts.proofs.Prelude.{eqb, leb, length, length-map, leb-true, eqb-true, le-leb, lt-ltb, eq-eqb, ne-eqb, and-left, and-right}
 use Rattle.classes.specs.declared.Shape.{Shape}
 use Rattle.classes.specs.way.Sound.{Sound}
 use Rattle.fields.specs.Field.{Field, arena, class, hole, page, region, off, frontier, partial, empty, emptyCount, cold, coldCount, next, prev, free, carved, listed, virgin, get, put, words, ok, emptyLimit, coldLimit}

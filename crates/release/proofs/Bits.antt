@@ -1,13 +1,6 @@
 -- What a change of out bits and marks keeps, and what a block's bit tells of its word.
 --     start-kept, bits-own, in-run-kept    a word's run, on a book whose out bits and marks may differ
-use Prim.Native.Nat.{ℕ, _-_, _*_, _≤_, _<_}
-use native.Mathlib.Omega.{arith}
-use mathlib.Core.Bool.{Bool, true, _&&_, _||_}
-use mathlib.Core.List.{List}
-use mathlib.Core.Path.{_≡_, refl, ap}
-use lib.Dec.{eqb, leb}
-use borrow.Author.Tests.{leb-true, ltb-true, eqb-true, lt-ltb}
-use Rattle.facts.proofs.Bools.{and-left, and-right}
+use Rattle.facts.proofs.Prelude.{ℕ, _-_, _*_, _≤_, _<_, arith, Bool, true, _&&_, _||_, List, _≡_, refl, ap, eqb, leb, leb-true, ltb-true, eqb-true, lt-ltb, and-left, and-right}
 use Rattle.words.specs.Word.{kindOf, granuleOf}
 use Rattle.classes.specs.declared.Shape.{Shape}
 use Rattle.fields.specs.Field.{Field, page, out, first, region, get, put}

@@ -1,14 +1,9 @@
 -- The ways out of `block_at` and `block_in`, and what a block tells.
-use Prim.Native.Nat.{ℕ, zero, suc, _+_, _-_, _*_, _/_, _%_, _^_, _≤_, _<_}
-use native.Mathlib.Omega.{arith}
-use native.Mathlib.Nat.{div-add-mod', mod-eq-of-lt, mul-le-mul-right, lt-of-mul-lt-mul-right}
+use Rattle.facts.proofs.Prelude.{ℕ, zero, suc, _+_, _-_, _*_, _/_, _%_, _^_, _≤_, _<_, arith, div-add-mod', mod-eq-of-lt, mul-le-mul-right, lt-of-mul-lt-mul-right}
+use Rattle.facts.proofs.Prelude.{Bool, true, false, _&&_, and-false, _≡_, refl, sym, ap, _∙_, eqb, le-leb, lt-ltb, eq-eqb, ne-eqb, eqb-true}
 use mir.Val.{Fits}
 use mir.Syntax.{w32, w64}
-use mathlib.Core.Bool.{Bool, true, false, _&&_, and-false}
-use mathlib.Core.Path.{_≡_, refl, sym, ap, _∙_}
-use lib.Dec.{eqb}
 use lib.Pow.{low}
-use borrow.Author.Tests.{le-leb, lt-ltb, eq-eqb, ne-eqb, eqb-true}
 use Rattle.words.specs.Word.{kindOf, granuleOf}
 use Rattle.classes.specs.declared.Shape.{Shape}
 use Rattle.classes.specs.Shape.{inverse}

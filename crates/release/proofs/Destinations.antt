@@ -1,13 +1,7 @@
 -- What a destination tells: the store that it names has room, and its fate's number.
 --     empty-room, cold-room    the store is below its limit
 --     arena-alone, fate-low    only a run for the arena has the arena's fate, and no fate is above it
-use Prim.Native.Nat.{ℕ, _≤_, _<_}
-use native.Mathlib.Omega.{arith}
-use mathlib.Core.Bool.{Bool, true, false, cond}
-use mathlib.Core.Path.{_≡_, refl}
-use lib.Dec.{ltb}
-use borrow.Author.Tests.{ltb-true}
-use Rattle.facts.proofs.Bools.{and-left}
+use Rattle.facts.proofs.Prelude.{ℕ, _≤_, _<_, arith, Bool, true, false, cond, _≡_, refl, ltb, ltb-true, and-left}
 use Rattle.classes.specs.declared.Shape.{Shape}
 use Rattle.rules.specs.declared.Limits.{Limits}
 use Rattle.model.specs.declared.Destination.{Destination}

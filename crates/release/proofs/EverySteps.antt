@@ -1,16 +1,6 @@
 -- A loop that tests every listed word and ends at the first that fails; and `of_one_run`, which has just such a loop.
-use Prim.Native.Nat.{ℕ, _+_, _^_, _≤_, _<_}
-use native.Mathlib.Omega.{arith}
-use native.Mathlib.Numerals.{add-one}
-use mathlib.Core.Bool.{Bool, true, false}
-use mathlib.Core.List.{List}
-use mathlib.Core.Path.{_≡_, refl, ap, _∙_}
-use lib.Dec.{eqb, ltb}
-use lib.ListN.{length, getD, drop}
-use lib.Seq.{drop-cons}
-use borrow.Author.Tests.{ltb-true}
-use Rattle.facts.specs.Lists.{every}
-use Rattle.facts.proofs.Lists.{drop-past, every-get}
+use Rattle.facts.proofs.Prelude.{ℕ, _+_, _^_, _≤_, _<_, arith, add-one, Bool, true, false, List, _≡_, refl, ap, _∙_}
+use Rattle.facts.proofs.Prelude.{eqb, ltb, length, getD, drop, drop-cons, ltb-true, every, drop-past, every-get}
 use Rattle.fields.specs.Field.{page, first, get, words, Has}
 use Rattle.pages.specs.Stack.{pageAt}
 use Rattle.calls.specs.Out.{startOf}

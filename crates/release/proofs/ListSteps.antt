@@ -1,14 +1,5 @@
 -- The listed blocks' out bits cleared, the list's last first: the loop of `take_list`.
-use Prim.Native.Nat.{ℕ, suc, _-_, _≤_}
-use native.Mathlib.Omega.{arith}
-use mathlib.Core.Bool.{true}
-use mathlib.Core.List.{List, _∷_, map}
-use mathlib.Core.Path.{_≡_, refl, sym, ap, _∙_}
-use lib.Dec.{ltb}
-use lib.ListN.{length, getD, drop}
-use lib.Seq.{drop-cons, drop-length}
-use borrow.Author.Tests.{ltb-true}
-use Rattle.facts.proofs.Lists.{every-get}
+use Rattle.facts.proofs.Prelude.{ℕ, suc, _-_, _≤_, arith, true, List, _∷_, map, _≡_, refl, sym, ap, _∙_, ltb, length, getD, drop, drop-cons, drop-length, ltb-true, every-get}
 use Rattle.classes.specs.declared.Shape.{Shape}
 use Rattle.fields.specs.Field.{out, put, Has}
 use Rattle.fields.proofs.Laws.{length-put}

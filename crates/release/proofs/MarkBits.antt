@@ -2,20 +2,12 @@
 --     bits-idle ..           the ways out of `mark_bits`
 --     one-bit, fresh-at      of one block
 --     splits                 n + 1 of them: one first, and the others
-use Prim.Native.Nat.{ℕ, zero, suc, _+_, _-_, _*_, _/_, _%_, _^_, _≤_, _<_}
-use native.Mathlib.Omega.{arith}
+use Rattle.facts.proofs.Prelude.{ℕ, zero, suc, _+_, _-_, _*_, _/_, _%_, _^_, _≤_, _<_, arith, le-refl, mod-eq-of-lt, eq-of-mul-eq-mul-right}
+use Rattle.facts.proofs.Prelude.{mul-le-mul-right, Bool, true, false, not, _&&_, List, _≡_, refl, sym, ap, _∙_, eqb, length, getD, set}
+use Rattle.facts.proofs.Prelude.{getD-set-same, getD-set-other, set-set, eq-eqb, ne-eqb, eqb-true, and-left, and-right}
 use native.Mathlib.Decide.{ℕ-discrete}
-use native.Mathlib.Nat.{le-refl, mod-eq-of-lt, eq-of-mul-eq-mul-right, mul-le-mul-right}
-use mathlib.Core.Bool.{Bool, true, false, not, _&&_}
-use mathlib.Core.List.{List}
-use mathlib.Core.Path.{_≡_, refl, sym, ap, _∙_}
 use lib.Bits.{bitAnd, and-high}
-use lib.Dec.{eqb}
-use lib.ListN.{length, getD, set}
 use lib.Pow.{pow-pos, pow-add, ones-lt, high-ones, shr-shr, mod-pow-add}
-use lib.Seq.{getD-set-same, getD-set-other, set-set}
-use borrow.Author.Tests.{eq-eqb, ne-eqb, eqb-true}
-use Rattle.facts.proofs.Bools.{and-left, and-right}
 use Rattle.fields.specs.Field.{bits, mark, read, place, get, put}
 use Rattle.fields.proofs.Parts.{Split, below, above, read-le, read-small, read-place-other, place-comm}
 use Rattle.fields.specs.way.OutBits.{outWord, outsAt}

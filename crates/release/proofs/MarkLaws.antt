@@ -3,25 +3,17 @@
 --     marks-all       marking in turn comes to the list's end exactly if no word that is out is marked at entry or stands twice
 --     repeats-found   number 15: where the mark words are 0, exactly if none that is out stands twice
 --     marks-clear     the words that the list marked, cleared whole: the book at entry
-use Prim.Native.Nat.{ℕ, zero, suc, _+_, _/_, _%_, _^_, _≤_, _<_}
-use native.Mathlib.Omega.{arith}
+use Rattle.facts.proofs.Prelude.{ℕ, zero, suc, _+_, _/_, _%_, _^_, _≤_, _<_, arith, zero-div, Bool, true, false, cond, not, _&&_, _||_}
+use Rattle.facts.proofs.Prelude.{and-false, true≢false, List, [], _∷_, _≡_, refl, sym, ap, _∙_, eqb, ltb, leb, eqb·zero-suc, eqb·suc-suc}
+use Rattle.facts.proofs.Prelude.{length, take, eqb-true, eqb-false, lt-ltb, eq-eqb, ne-eqb, every, elem, distinct, and-left, and-right}
 use native.Mathlib.Decide.{decLe}
-use native.Mathlib.Nat.{zero-div}
-use mathlib.Core.Bool.{Bool, true, false, cond, not, _&&_, _||_, and-false, true≢false}
-use mathlib.Core.List.{List, [], _∷_}
-use mathlib.Core.Path.{_≡_, refl, sym, ap, _∙_}
-use lib.Dec.{eqb, ltb, leb, eqb·zero-suc, eqb·suc-suc}
-use lib.ListN.{length, take}
-use borrow.Author.Tests.{eqb-true, eqb-false, lt-ltb, eq-eqb, ne-eqb}
 use Rattle.words.specs.Word.{kindOf}
 use Rattle.classes.specs.declared.Shape.{Shape}
 use Rattle.classes.specs.way.Sound.{Sound}
 use Rattle.fields.specs.Field.{Field, bits, out, mark, region, read, place, get, put, same, words}
-use Rattle.facts.proofs.Bools.{and-left, and-right}
 use Rattle.fields.proofs.Laws.{get-put-same, get-put-other, put-put-same, put-comm, put-get}
 use Rattle.fields.proofs.Parts.{Split, below, above, read-place, read-place-other}
 use Rattle.fields.proofs.Changes.{Changes, changes-none, changes-put, changes-trans, changes-mono, same-eq}
-use Rattle.facts.specs.Lists.{every, elem, distinct}
 use Rattle.model.specs.Release.{ofKind}
 use Rattle.pages.specs.Stack.{indexOf, isBlock}
 use Rattle.calls.specs.Out.{startOf, outIn, outAt, markOf, outs, clean, unmarked, repeats}

@@ -1,22 +1,14 @@
 -- The ways out of `mark_one`, and the loops of `mark_few` and `mark_by`.
-use Prim.Native.Nat.{ℕ, suc, _+_, _*_, _/_, _≤_, _<_}
-use native.Mathlib.Omega.{arith}
-use native.Mathlib.Nat.{le-refl}
+use Rattle.facts.proofs.Prelude.{ℕ, suc, _+_, _*_, _/_, _≤_, _<_, arith, le-refl, add-one, Bool, true, false, cond, _&&_}
+use Rattle.facts.proofs.Prelude.{and-assoc, List, _≡_, refl, sym, ap, _∙_, length, getD, drop, drop-cons, and-right, drop-past}
 use native.Mathlib.Decide.{ℕ-discrete, decLe}
-use native.Mathlib.Numerals.{add-one}
-use mathlib.Core.Bool.{Bool, true, false, cond, _&&_, and-assoc}
-use mathlib.Core.List.{List}
-use mathlib.Core.Path.{_≡_, refl, sym, ap, _∙_}
 use mir.Val.{Fits}
 use mir.Syntax.{w32}
-use lib.ListN.{length, getD, drop}
-use lib.Seq.{drop-cons}
 use Rattle.classes.specs.declared.Shape.{Shape}
 use Rattle.classes.specs.way.Sound.{Sound}
 use Rattle.fields.specs.Field.{mark, words, Has}
 use Rattle.model.specs.Release.{ofKind}
 use Rattle.pages.specs.Stack.{indexOf, isBlock}
-use Rattle.facts.proofs.Bools.{and-right}
 use Rattle.release.specs.declared.Found.{Found}
 use Rattle.release.specs.declared.Found.the-variants.{At, Nothing}
 use Rattle.release.specs.way.Blocks.{blockIn}
@@ -24,7 +16,6 @@ use Rattle.release.specs.way.Marks.{setMark, freshAt, markedIn, freshIn,
 use Rattle.release.specs.way.MarkPre.{MarkedBlock, MarkedOne, MarkedIn, MarkedTo, Reaches, Alone}
 use Rattle.release.proofs.Bits.{below-capacity}
 use Rattle.release.proofs.BlockSteps.{none-found, found-at}
-use Rattle.facts.proofs.Lists.{drop-past}
 
 -- ---- one word
 module _ (b : List ℕ) (sh : Shape) (q w : ℕ) where

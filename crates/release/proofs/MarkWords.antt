@@ -1,13 +1,6 @@
 -- The loops over a run's words of marks.
-use Prim.Native.Nat.{ℕ, _+_, _≤_, _<_}
-use native.Mathlib.Omega.{arith}
-use native.Mathlib.Numerals.{add-one}
-use mathlib.Core.Bool.{and-comm}
-use mathlib.Core.List.{List}
-use mathlib.Core.Path.{_≡_, refl, ap, _∙_}
+use Rattle.facts.proofs.Prelude.{ℕ, _+_, _≤_, _<_, arith, add-one, and-comm, List, _≡_, refl, ap, _∙_, eqb, length}
 use lib.Bits.{bitOr}
-use lib.Dec.{eqb}
-use lib.ListN.{length}
 use Rattle.fields.specs.Field.{mark, get, put, Has}
 use Rattle.fields.specs.Clear.{clearMarks}
 use Rattle.release.specs.way.Marks.{noMarks, takeWord, takeMarks}

@@ -1,13 +1,6 @@
 -- The ways out of a release of one block that leaves others of its run out.
-use Prim.Native.Nat.{ℕ, _+_, _-_, _*_, _/_, _≤_, _<_}
-use native.Mathlib.Omega.{arith}
-use mathlib.Core.Bool.{Bool, true, false, cond, not, _&&_, and-false}
-use mathlib.Core.List.{List, [], _∷_}
-use mathlib.Core.Path.{_≡_, refl, sym, ap, _∙_}
-use lib.Dec.{eqb}
-use lib.ListN.{length, getD}
-use borrow.Author.Tests.{eqb-true, eqb-false, lt-ltb, eq-eqb, ne-eqb, not-true}
-use Rattle.facts.proofs.Bools.{and-left, and-right}
+use Rattle.facts.proofs.Prelude.{ℕ, _+_, _-_, _*_, _/_, _≤_, _<_, arith, Bool, true, false, cond, not, _&&_, and-false, List, [], _∷_, _≡_, refl}
+use Rattle.facts.proofs.Prelude.{sym, ap, _∙_, eqb, length, getD, eqb-true, eqb-false, lt-ltb, eq-eqb, ne-eqb, not-true, and-left, and-right}
 use Rattle.classes.specs.declared.Shape.{Shape}
 use Rattle.classes.specs.Shape.{shapeOf}
 use Rattle.fields.specs.Field.{arena, class, page, frontier, partial, out, mark, free, carved, get, put, words, Has}

@@ -1,17 +1,6 @@
 -- `find_out`: its ways out, and what a block that it found tells; the loops over it: `list_clean`, `mark_list`, `clear_list`, `list_out`.
-use Prim.Native.Nat.{ℕ, _+_, _/_, _≤_, _<_}
-use native.Mathlib.Omega.{arith}
-use native.Mathlib.Numerals.{add-one}
-use mathlib.Core.Bool.{Bool, true, false, cond, not, _&&_}
-use mathlib.Core.List.{List, [], _∷_}
-use mathlib.Core.Path.{_≡_, refl, sym, ap, _∙_}
-use lib.Dec.{eqb}
-use lib.ListN.{length, getD, take, drop, length-take}
-use lib.Seq.{drop-cons, getD-take}
-use borrow.Author.Tests.{eq-eqb, ne-eqb, not-true}
-use Rattle.facts.specs.Lists.{every, filter}
-use Rattle.facts.proofs.Bools.{and-right}
-use Rattle.facts.proofs.Lists.{drop-past}
+use Rattle.facts.proofs.Prelude.{ℕ, _+_, _/_, _≤_, _<_, arith, add-one, Bool, true, false, cond, not, _&&_, List, [], _∷_, _≡_, refl, sym, ap, _∙_, eqb}
+use Rattle.facts.proofs.Prelude.{length, getD, take, drop, length-take, drop-cons, getD-take, eq-eqb, ne-eqb, not-true, every, filter, and-right, drop-past}
 use Rattle.classes.specs.declared.Shape.{Shape}
 use Rattle.fields.specs.Field.{mark, out, get, put, Has}
 use Rattle.fields.specs.Ranges.{maxPages}

@@ -1,13 +1,7 @@
 -- What parking a page asks, keeps and answers.
 --     moves         the fields that the act changes before a store takes the page: no count of a store, nothing of the arena
-use Prim.Native.Nat.{ℕ, _≤_, _<_}
-use native.Mathlib.Omega.{arith}
-use mathlib.Core.Bool.{Bool, true, false, cond, _&&_, _||_, and-false, and-true}
-use mathlib.Core.List.{List}
-use mathlib.Core.Path.{_≡_, refl, sym, _∙_}
-use lib.Dec.{eqb, leb}
-use borrow.Author.Tests.{leb-true, lt-ltb, eq-eqb, ne-eqb}
-use Rattle.facts.proofs.Bools.{and-left, and-right}
+use Rattle.facts.proofs.Prelude.{ℕ, _≤_, _<_, arith, Bool, true, false, cond, _&&_, _||_, and-false, and-true, List}
+use Rattle.facts.proofs.Prelude.{_≡_, refl, sym, _∙_, eqb, leb, leb-true, lt-ltb, eq-eqb, ne-eqb, and-left, and-right}
 use Rattle.words.specs.Host.{discardZeroed}
 use Rattle.classes.specs.declared.Shape.{Shape}
 use Rattle.classes.specs.way.Sound.{Sound}

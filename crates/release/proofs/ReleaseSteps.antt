@@ -2,16 +2,8 @@
 --     valid-kept        number 13's last test reads no out bit and no mark
 --     all-ready         what marking at once tells: none of numbers 9, 13 for a mark, 15, 10 and 11 applies
 --     finished          13's last test, and the act
-use Prim.Native.Nat.{ℕ, zero, suc, _+_, _*_, _^_, _≤_, _<_}
-use native.Mathlib.Omega.{arith}
-use mathlib.Core.Bool.{Bool, true, false, cond}
-use mathlib.Core.List.{List, [], _∷_, map}
-use mathlib.Core.Path.{_≡_, refl, sym, ap, _∙_}
-use lib.Dec.{eqb, ltb}
-use lib.ListN.{length, getD}
-use borrow.Author.Tests.{eqb-true, le-leb, lt-ltb, ltb-true, eq-eqb, ne-eqb}
-use Rattle.facts.specs.Lists.{isNil, every}
-use Rattle.facts.proofs.Bools.{and-left, and-right}
+use Rattle.facts.proofs.Prelude.{ℕ, zero, suc, _+_, _*_, _^_, _≤_, _<_, arith, Bool, true, false, cond, List, [], _∷_, map, _≡_, refl, sym, ap, _∙_, eqb}
+use Rattle.facts.proofs.Prelude.{ltb, length, getD, eqb-true, le-leb, lt-ltb, ltb-true, eq-eqb, ne-eqb, isNil, every, and-left, and-right, every-made}
 use Rattle.classes.specs.declared.Shape.{Shape}
 use Rattle.classes.specs.way.Sound.{Sound}
 use Rattle.fields.specs.Field.{arena, class, page, frontier, partial, empty, emptyCount, cold, coldCount, first, next, prev, free, carved, listed, virgin, get, words, Has, hole, emptyLimit, coldLimit}
@@ -39,7 +31,6 @@ use Rattle.release.specs.declared.Verdict.the-variants.{No, In}
 use Rattle.release.specs.way.Pre.{ClassPre, StartPre, TakePre}
 use Rattle.release.specs.way.Blocks.{runAt}
 use Rattle.release.specs.way.Valid.{ValidPre}
-use Rattle.facts.proofs.Lists.{every-made}
 use Rattle.pages.specs.Runs.{whole}
 use Rattle.release.specs.way.Marks.{freshCount, freshBook, noMarks, allFresh, takeMarks}
 use Rattle.release.specs.way.MarkPre.{FieldPre, MarkedIn, MarkedAll, FaultPre, Faulted}

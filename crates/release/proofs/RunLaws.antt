@@ -3,16 +3,8 @@
 --     run-out                   one that is out in the run is out in the class
 --     out-here                  one that is out in the class, in this run, is out in the run
 --     low-marks                 out bits cleared in another order
-use Prim.Native.Nat.{ℕ, suc, _+_, _*_, _≤_, _<_}
-use native.Mathlib.Omega.{arith}
-use native.Mathlib.Nat.{mul-le-mul-right, suc-mul}
-use mathlib.Core.Bool.{Bool, true, false}
-use mathlib.Core.List.{List, [], _∷_}
-use mathlib.Core.Path.{_≡_, refl, sym, _∙_}
-use lib.Dec.{ltb}
-use borrow.Author.Tests.{ltb-true, lt-ltb, le-leb}
-use Rattle.facts.specs.Lists.{every}
-use Rattle.facts.proofs.Bools.{and-left, and-right}
+use Rattle.facts.proofs.Prelude.{ℕ, suc, _+_, _*_, _≤_, _<_, arith, mul-le-mul-right, suc-mul, Bool, true, false, List}
+use Rattle.facts.proofs.Prelude.{[], _∷_, _≡_, refl, sym, _∙_, ltb, ltb-true, lt-ltb, le-leb, every, and-left, and-right}
 use Rattle.classes.specs.declared.Shape.{Shape}
 use Rattle.classes.specs.way.Sound.{Sound}
 use Rattle.fields.specs.Field.{arena, out, frontier, first, get, put, same}

@@ -2,33 +2,23 @@
 --     takes-all     all marked: taking the marks away by words clears just the listed blocks' out bits
 --     clears-run    clearing the marks by words gives back the book
 --     all-fresh, not-marked, not-repeated    all marked: none of numbers 13 (a mark), 15, 10 and 11 applies
-use Prim.Native.Nat.{ℕ, zero, suc, _+_, _*_, _/_, _%_, _≤_, _<_}
-use native.Mathlib.Omega.{arith}
+use Rattle.facts.proofs.Prelude.{ℕ, zero, suc, _+_, _*_, _/_, _%_, _≤_, _<_, arith, Bool, true, false, not, _&&_, and-false, List, [], _∷_, map, _≡_, refl, sym, ap, _∙_}
+use Rattle.facts.proofs.Prelude.{eqb, ltb, leb, length, getD, set, set-getD, set-set, eqb-true, lt-ltb, eq-eqb, ne-eqb, every, and-left, and-right, every-same, every-made}
 use native.Mathlib.Decide.{ℕ-discrete}
-use mathlib.Core.Bool.{Bool, true, false, not, _&&_, and-false}
-use mathlib.Core.List.{List, [], _∷_, map}
-use mathlib.Core.Path.{_≡_, refl, sym, ap, _∙_}
 use lib.Bits.{bitXor, xor-zero-r}
-use lib.Dec.{eqb, ltb, leb}
-use lib.ListN.{length, getD, set}
-use lib.Seq.{set-getD, set-set}
-use borrow.Author.Tests.{eqb-true, lt-ltb, eq-eqb, ne-eqb}
 use Rattle.classes.specs.declared.Shape.{Shape}
 use Rattle.classes.specs.way.Sound.{Sound}
 use Rattle.fields.specs.Field.{mark, out, get, put, words}
 use Rattle.fields.specs.Clear.{clearMarks}
-use Rattle.facts.proofs.Bools.{and-left, and-right}
 use Rattle.fields.proofs.Laws.{length-put, put-comm, put-get}
 use Rattle.fields.proofs.Changes.{Changes, changes-none, changes-trans}
 use Rattle.fields.proofs.Parts.{read-small}
-use Rattle.facts.specs.Lists.{every}
 use Rattle.model.specs.Release.{ofKind}
 use Rattle.pages.specs.Runs.{whole}
 use Rattle.pages.specs.Stack.{setOuts, indexOf, isBlock}
 use Rattle.calls.specs.Out.{startOf, outIn, outAt, outs, clean, unmarked, repeats}
 use Rattle.fields.specs.way.OutBits.{outWord}
 use Rattle.release.specs.way.Marks.{markAt, freshAt, isMarkedIn, markedIn, markCount, freshIn, freshCount, freshBook, noMarks, takeWord, takeMarks, countBy, bookBy}
-use Rattle.facts.proofs.Lists.{every-same, every-made}
 use Rattle.pages.proofs.Kept.{whole-kept}
 use Rattle.release.proofs.Bits.{out-in, below-capacity, bits-own, start-kept}
 use Rattle.release.proofs.RunLaws.{low-marks, run-out, run-start}

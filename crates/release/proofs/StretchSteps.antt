@@ -1,18 +1,10 @@
 -- Words that go on by one block from each to the next: their blocks in one word of marks are marked at once, as one by one.
 --     Stretching ..        the loop of `stretch`
 --     went                 what `mark_along` comes to
-use Prim.Native.Nat.{ℕ, zero, suc, _+_, _-_, _*_, _/_, _%_, _^_, _≤_, _<_, min}
-use native.Mathlib.Omega.{arith}
+use Rattle.facts.proofs.Prelude.{ℕ, zero, suc, _+_, _-_, _*_, _/_, _%_, _^_, _≤_, _<_, min, arith, mul-le-mul-right, mul-div-cancel, Bool}
+use Rattle.facts.proofs.Prelude.{true, false, _&&_, _||_, List, [], _∷_, _≡_, refl, sym, ap, _∙_, subst, eqb, leb, length, getD, drop}
+use Rattle.facts.proofs.Prelude.{length-drop, getD-drop, drop-drop, leb-true, le-leb, lt-ltb, eq-eqb, eqb-true, and-left, and-right}
 use native.Mathlib.Decide.{ℕ-discrete}
-use native.Mathlib.Nat.{mul-le-mul-right, mul-div-cancel}
-use mathlib.Core.Bool.{Bool, true, false, _&&_, _||_}
-use mathlib.Core.List.{List, [], _∷_}
-use mathlib.Core.Path.{_≡_, refl, sym, ap, _∙_, subst}
-use lib.Dec.{eqb, leb}
-use lib.ListN.{length, getD, drop, length-drop}
-use lib.Seq.{getD-drop, drop-drop}
-use borrow.Author.Tests.{leb-true, le-leb, lt-ltb, eq-eqb, eqb-true}
-use Rattle.facts.proofs.Bools.{and-left, and-right}
 use Rattle.words.specs.Word.{kindOf, granuleOf}
 use Rattle.classes.specs.declared.Shape.{Shape}
 use Rattle.classes.specs.way.Sound.{Sound}

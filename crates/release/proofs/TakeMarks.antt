@@ -2,17 +2,11 @@
 --     word-taken      in one word
 --     takes-marked    a block marked before: its out bit is cleared, and nothing else is changed
 --     out-past ..     a block of another page: nothing of it is read or changed
-use Prim.Native.Nat.{ℕ, zero, suc, _+_, _-_, _*_, _/_, _%_, _^_, _≤_, _<_}
-use native.Mathlib.Omega.{arith}
+use Rattle.facts.proofs.Prelude.{ℕ, zero, suc, _+_, _-_, _*_, _/_, _%_, _^_, _≤_, _<_, arith, mod-lt, List, _≢_, _≡_, refl}
+use Rattle.facts.proofs.Prelude.{sym, ap, _∙_, length, getD, set, length-set, getD-set-same, getD-set-other, set-set, set-comm}
 use native.Mathlib.Decide.{ℕ-discrete}
-use native.Mathlib.Nat.{mod-lt}
-use mathlib.Core.List.{List}
-use mathlib.Core.Logic.{_≢_}
-use mathlib.Core.Path.{_≡_, refl, sym, ap, _∙_}
 use lib.Bits.{bitXor, xor-block, xor-lt, xor-zero-r, xor-self}
-use lib.ListN.{length, getD, set, length-set}
 use lib.Pow.{pow-pos, split, high, low}
-use lib.Seq.{getD-set-same, getD-set-other, set-set, set-comm}
 use Rattle.fields.specs.Field.{bits, place, out, mark, get, put}
 use Rattle.fields.specs.way.OutBits.{outWord}
 use Rattle.release.specs.way.Marks.{markAt, setMark, takeWord, takeMarks}

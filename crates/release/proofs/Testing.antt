@@ -1,15 +1,7 @@
 -- `list_repeats`: number 15, and the book as it was; `out_fault`: the numbers of the blocks in their order.
-use Prim.Native.Nat.{ℕ, suc, _≤_}
-use native.Mathlib.Omega.{arith}
-use mathlib.Core.Bool.{Bool, true, false, cond, not}
-use mathlib.Core.List.{List, [], _∷_}
-use mathlib.Core.Path.{_≡_, refl, sym, ap, _∙_}
-use lib.Dec.{eqb, leb}
-use lib.ListN.{length, take}
-use borrow.Author.Tests.{eq-eqb, ne-eqb, le-leb}
+use Rattle.facts.proofs.Prelude.{ℕ, suc, _≤_, arith, Bool, true, false, cond, not, List, [], _∷_, _≡_, refl, sym, ap, _∙_, eqb, leb, length, take, eq-eqb, ne-eqb, le-leb, every}
 use Rattle.classes.specs.declared.Shape.{Shape}
 use Rattle.fields.specs.Field.{words}
-use Rattle.facts.specs.Lists.{every}
 use Rattle.calls.specs.Out.{outAt, unmarked, repeats, outFault}
 use Rattle.calls.proofs.Out.{fault-marked, fault-repeats, fault-foreign}
 use Rattle.release.specs.way.Pre.{ClassPre}

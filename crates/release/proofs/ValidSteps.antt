@@ -1,16 +1,8 @@
 -- The ways out of number 13's tests.
-use Prim.Native.Nat.{ℕ, _+_, _-_, _*_, _≤_, _<_}
-use native.Mathlib.Omega.{arith}
-use native.Mathlib.Numerals.{add-one}
-use native.Mathlib.Nat.{mul-le-mul}
+use Rattle.facts.proofs.Prelude.{ℕ, _+_, _-_, _*_, _≤_, _<_, arith, mul-le-mul, add-one, Bool, true, false, _&&_, and-false, List}
+use Rattle.facts.proofs.Prelude.{_≡_, sym, _∙_, leb, le-leb, lt-leb, lt-ltb, le-ltb, eq-eqb, ne-eqb, leb-true, and-left, and-right}
 use mir.Val.{Fits}
 use mir.Syntax.{w32}
-use mathlib.Core.Bool.{Bool, true, false, _&&_, and-false}
-use mathlib.Core.List.{List}
-use mathlib.Core.Path.{_≡_, sym, _∙_}
-use lib.Dec.{leb}
-use borrow.Author.Tests.{le-leb, lt-leb, lt-ltb, le-ltb, eq-eqb, ne-eqb, leb-true}
-use Rattle.facts.proofs.Bools.{and-left, and-right}
 use Rattle.classes.specs.declared.Shape.{Shape}
 use Rattle.rules.specs.declared.Limits.{Limits}
 use Rattle.rules.specs.Rules.{limits, Fit}

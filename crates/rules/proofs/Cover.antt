@@ -1,17 +1,8 @@
 -- Rows that are not refused cover the classes, each by one row, and no limit exceeds 256.
 --     rows-cover    a list that is not refused, and not empty
 --     rules-fit     the limits of a list that is not refused; `plain-rules`, those of none are document 01's
-use Prim.Native.Nat.{ℕ, zero, suc, _+_, _-_, _*_, _%_, _≤_, _<_}
-use native.Mathlib.Omega.{arith}
-use mathlib.Core.Bool.{true, false, _&&_, false≢true}
-use mathlib.Core.List.{List, [], _∷_}
-use mathlib.Core.Path.{_≡_, refl, sym, _∙_, ap, subst}
-use lib.Dec.{eqb, leb, ltb}
-use lib.ListN.{length, getD, drop}
-use borrow.Author.Tests.{le-leb, leb-true, leb-false, ltb-true, ltb-false}
-use Rattle.facts.specs.Lists.{isNil, every, All, below}
-use Rattle.facts.proofs.Bools.{by-cases, and-left, and-right}
-use Rattle.facts.proofs.Lists.{every-at}
+use Rattle.facts.proofs.Prelude.{ℕ, zero, suc, _+_, _-_, _*_, _%_, _≤_, _<_, arith, true, false, _&&_, false≢true, List, [], _∷_, _≡_, refl, sym, _∙_, ap, subst, eqb, leb}
+use Rattle.facts.proofs.Prelude.{ltb, length, getD, drop, le-leb, leb-true, leb-false, ltb-true, ltb-false, isNil, every, All, below, by-cases, and-left, and-right, every-at}
 use Rattle.words.specs.Host.{digit}
 use Rattle.words.specs.Limits.{maxParked}
 use Rattle.classes.specs.Shape.{classCount}

@@ -1,15 +1,6 @@
 -- The steps of the functions on rule rows: a row's tests, the loops over rows and over classes, the ways out.
-use Prim.Native.Nat.{ℕ, suc, _+_, _-_, _%_, _≤_, _<_}
-use native.Mathlib.Omega.{arith}
-use mathlib.Core.Bool.{Bool, true, false, cond, not, _&&_}
-use mathlib.Core.List.{List, [], _∷_}
-use mathlib.Core.Path.{_≡_, refl, sym, _∙_}
-use lib.Dec.{leb, ltb}
-use lib.ListN.{length, getD, drop, length-drop}
-use lib.Seq.{drop-cons}
-use borrow.Author.Tests.{le-leb, lt-leb, lt-ltb, le-ltb, eq-eqb, ne-eqb, not-true, not-false}
-use Rattle.facts.specs.Lists.{isNil, every, below}
-use Rattle.facts.proofs.Lists.{below-last}
+use Rattle.facts.proofs.Prelude.{ℕ, suc, _+_, _-_, _%_, _≤_, _<_, arith, Bool, true, false, cond, not, _&&_, List, [], _∷_, _≡_, refl, sym, _∙_, leb, ltb, length, getD}
+use Rattle.facts.proofs.Prelude.{drop, length-drop, drop-cons, le-leb, lt-leb, lt-ltb, le-ltb, eq-eqb, ne-eqb, not-true, not-false, isNil, every, below, below-last}
 use Rattle.words.specs.Host.{digit}
 use Rattle.words.specs.Limits.{maxParked}
 use Rattle.classes.specs.Shape.{classCount}

@@ -1,13 +1,6 @@
 -- The ways out of a commit's steps, and what they ask of each other.
-use Prim.Native.Nat.{ℕ, zero, suc, _+_, _-_, _≤_, _<_}
-use native.Mathlib.Omega.{arith}
-use mathlib.Core.Bool.{Bool, true, false}
-use mathlib.Core.List.{List}
-use mathlib.Core.Path.{_≡_, refl, sym, ap, _∙_, subst}
-use lib.Dec.{ltb}
-use lib.ListN.{length}
-use borrow.Author.Tests.{lt-ltb, le-ltb, le-leb, lt-leb, eq-eqb, ne-eqb}
-use Rattle.facts.proofs.Bools.{by-cases}
+use Rattle.facts.proofs.Prelude.{ℕ, zero, suc, _+_, _-_, _≤_, _<_, arith, Bool, true, false, List, _≡_, refl, sym, ap}
+use Rattle.facts.proofs.Prelude.{_∙_, subst, ltb, length, lt-ltb, le-ltb, le-leb, lt-leb, eq-eqb, ne-eqb, by-cases}
 use Rattle.words.specs.Limits.{holeSlots}
 use Rattle.words.specs.Host.{reservationGranted, commitGranted}
 use Rattle.fields.specs.Field.{arena, held, put}

@@ -2,18 +2,9 @@
 --     Stands               a book with the record still to be written stands for the model's arena: the record stored, it is the arena stored
 --     stands-loaded, stands-status, stands-frontier, stands-counted, give-stands, drawn     each step keeps it
 --     commit-acts          a commit, on any words long enough
-use Prim.Native.Nat.{ℕ, zero, suc, _+_, _-_, _≤_, _<_}
-use native.Mathlib.Omega.{arith}
+use Rattle.facts.proofs.Prelude.{ℕ, zero, suc, _+_, _-_, _≤_, _<_, arith, Bool, true, false, List, Option, none, some, _≡_, refl, sym, ap, _∙_, subst}
+use Rattle.facts.proofs.Prelude.{ltb, leb, length, eqb-true, eq-eqb, ne-eqb, le-leb, lt-leb, leb-true, every, isSome, by-cases, and-left, and-right}
 use native.Mathlib.Decide.{ℕ-discrete, decLe}
-use mathlib.Core.Bool.{Bool, true, false}
-use mathlib.Core.List.{List}
-use mathlib.Core.Option.{Option, none, some}
-use mathlib.Core.Path.{_≡_, refl, sym, ap, _∙_, subst}
-use lib.Dec.{ltb, leb}
-use lib.ListN.{length}
-use borrow.Author.Tests.{eqb-true, eq-eqb, ne-eqb, le-leb, lt-leb, leb-true}
-use Rattle.facts.specs.Lists.{every, isSome}
-use Rattle.facts.proofs.Bools.{by-cases, and-left, and-right}
 use Rattle.words.specs.Limits.{holeSlots, holePagesMax}
 use Rattle.words.specs.Host.{reservationGranted, commitGranted}
 use Rattle.fields.specs.Field.{arena, state, frontier, holes, holePages, held, get, put, words}

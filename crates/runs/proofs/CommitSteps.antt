@@ -1,15 +1,8 @@
 -- The ways out of a commit for an owner and of a growth, and what they ask of the steps.
-use Prim.Native.Nat.{ℕ, zero, suc, _+_, _-_, _≤_, _^_}
-use native.Mathlib.Omega.{arith}
-use mathlib.Core.Bool.{Bool, true, false, cond, not, true≢false}
-use mathlib.Core.List.{List}
-use mathlib.Core.Path.{_≡_, refl, sym, ap, _∙_, subst}
+use Rattle.facts.proofs.Prelude.{ℕ, zero, suc, _+_, _-_, _≤_, _^_, arith, Bool, true, false, cond, not, true≢false, List, _≡_, refl}
+use Rattle.facts.proofs.Prelude.{sym, ap, _∙_, subst, eqb, leb, length, le-leb, eq-eqb, ne-eqb, not-true, not-false, by-cases}
 use mir.Val.{Fits}
 use mir.Syntax.{w32}
-use lib.Dec.{eqb, leb}
-use lib.ListN.{length}
-use borrow.Author.Tests.{le-leb, eq-eqb, ne-eqb, not-true, not-false}
-use Rattle.facts.proofs.Bools.{by-cases}
 use Rattle.words.specs.Limits.{maxPages, holeSlots}
 use Rattle.words.specs.Host.{commitGranted}
 use Rattle.fields.specs.Field.{arena, held, get, words}

@@ -2,17 +2,8 @@
 --     every-at, every-weaker    at an index; by a weaker test
 --     ends-more                 holes in a give's range are so with a higher frontier
 --     take-valid, draw-valid, place-valid     holes in a give's range stay in it
-use Prim.Native.Nat.{ℕ, suc, _+_, _-_, _≤_, _<_}
-use native.Mathlib.Omega.{arith}
-use mathlib.Core.Bool.{Bool, true}
-use mathlib.Core.List.{List, [], _∷_, _++_}
-use mathlib.Core.Option.{Option}
-use mathlib.Core.Path.{_≡_, refl, sym, ap, _∙_, subst}
-use lib.Dec.{ltb, leb}
-use lib.ListN.{length}
-use borrow.Author.Tests.{ltb-true, le-leb, leb-true, eqb-true}
-use Rattle.facts.specs.Lists.{every, All}
-use Rattle.facts.proofs.Bools.{by-cases, and-left, and-right}
+use Rattle.facts.proofs.Prelude.{ℕ, suc, _+_, _-_, _≤_, _<_, arith, Bool, true, List, [], _∷_, _++_, Option, _≡_, refl, sym, ap, _∙_}
+use Rattle.facts.proofs.Prelude.{subst, ltb, leb, length, ltb-true, le-leb, leb-true, eqb-true, every, All, by-cases, and-left, and-right}
 use Rattle.model.specs.declared.Hole.{Hole}
 use Rattle.model.specs.HoleStore as Model
 use Rattle.model.specs.HoleStore.{HoleStore, holeAt, setAt, removeAt, withoutLast, lastHole, cutFrom, takeAt, endsAt, startsAt, withBefore, withAfter, withBoth, place}

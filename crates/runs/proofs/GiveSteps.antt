@@ -1,12 +1,6 @@
 -- The ways out of giving, growing and the direct calls.
-use Prim.Native.Nat.{ℕ, zero, suc, _+_, _-_, _≤_, _<_}
-use native.Mathlib.Omega.{arith}
-use mathlib.Core.Bool.{Bool, true, false}
-use mathlib.Core.List.{List}
-use mathlib.Core.Path.{_≡_, refl, sym, ap, _∙_, subst}
-use lib.Dec.{leb}
-use borrow.Author.Tests.{le-leb, lt-leb, leb-true, eq-eqb, ne-eqb}
-use Rattle.facts.proofs.Bools.{and-left, and-right, and-no}
+use Rattle.facts.proofs.Prelude.{ℕ, zero, suc, _+_, _-_, _≤_, _<_, arith, Bool, true, false, List, _≡_, refl, sym, ap}
+use Rattle.facts.proofs.Prelude.{_∙_, subst, leb, le-leb, lt-leb, leb-true, eq-eqb, ne-eqb, and-left, and-right, and-no}
 use Rattle.words.specs.Limits.{holeSlots}
 use Rattle.words.specs.Host.{commitGranted}
 use Rattle.model.specs.Heap.{direct}

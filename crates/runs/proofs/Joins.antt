@@ -2,16 +2,8 @@
 --     set-words      one hole changed: one hole written
 --     place-stands   the holes with the run, stored, are the words that the code writes, and the record goes with them
 --     no-place       where no hole is touched and no slot is free nothing is written
-use Prim.Native.Nat.{ℕ, zero, suc, _+_, _-_, _≤_, _<_}
-use native.Mathlib.Omega.{arith}
-use mathlib.Core.Bool.{true, false, true≢false}
-use mathlib.Core.List.{List, [], _∷_}
-use mathlib.Core.Option.{Option}
-use mathlib.Core.Path.{_≡_, refl, sym, ap, _∙_}
-use lib.Dec.{eqb, ltb, leb}
-use lib.ListN.{length, length-append}
-use borrow.Author.Tests.{eqb-true, eqb-false, lt-ltb, ltb-true, ltb-false, ne-eqb}
-use Rattle.facts.proofs.Bools.{by-cases}
+use Rattle.facts.proofs.Prelude.{ℕ, zero, suc, _+_, _-_, _≤_, _<_, arith, true, false, true≢false, List, [], _∷_, Option, _≡_, refl, sym, ap}
+use Rattle.facts.proofs.Prelude.{_∙_, eqb, ltb, leb, length, length-append, eqb-true, eqb-false, lt-ltb, ltb-true, ltb-false, ne-eqb, by-cases}
 use Rattle.words.specs.Limits.{holeSlots}
 use Rattle.fields.specs.Field.{words}
 use Rattle.model.specs.declared.Hole.{Hole}

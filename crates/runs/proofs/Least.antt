@@ -1,16 +1,7 @@
 -- The least key of a list of holes says the model's choice, where each hole is in its range.
 --     plan-is    what is found by the least key is the plan
-use mathlib.Core.Path.{_≡_, refl, sym, ap, subst}
-use mathlib.Core.Logic.{_⊎_, inl, inr, ⊎-elim}
-use Prim.Native.Nat.{ℕ, suc, _+_, _-_, _*_, _/_, _<_, _≤_, _^_}
-use native.Mathlib.Omega.{arith}
-use mathlib.Core.Bool.{true, false, true≢false}
-use mathlib.Core.List.{List, [], _∷_}
-use mathlib.Core.Option.{Option, none, some}
-use lib.Dec.{eqb, leb, ltb}
-use borrow.Author.Tests.{ltb-true, ltb-false, leb-true, leb-false, eqb-true, eqb-false, le-leb, lt-leb}
-use Rattle.facts.specs.Lists.{every}
-use Rattle.facts.proofs.Bools.{by-cases, and-left, and-right}
+use Rattle.facts.proofs.Prelude.{ℕ, suc, _+_, _-_, _*_, _/_, _<_, _≤_, _^_, arith, true, false, true≢false, List, [], _∷_, _⊎_, inl, inr, ⊎-elim, Option, none, some, _≡_, refl}
+use Rattle.facts.proofs.Prelude.{sym, ap, subst, eqb, leb, ltb, ltb-true, ltb-false, leb-true, leb-false, eqb-true, eqb-false, le-leb, lt-leb, every, by-cases, and-left, and-right}
 use Rattle.model.specs.declared.Hole.{Hole}
 use Rattle.model.specs.HoleStore.{goesBefore, Fit, fitAt, nearer, leastFit, indexOf}
 use Rattle.arena.specs.Valid.{holeValid}

@@ -1,14 +1,7 @@
 -- Holes loaded part by part, the last part first.
 --     part-valid, part-fold-holes    with a part before the others: whether all are in their range, and what all come to
 --     four-loaded, four-valid        a part of four
-use mathlib.Core.Path.{_≡_, refl, sym}
-use Prim.Native.Nat.{ℕ, zero, suc, _+_, _-_, _≤_}
-use native.Mathlib.Omega.{arith}
-use native.Mathlib.Nat.{add-zero}
-use mathlib.Core.Bool.{Bool, true, false, _&&_, and-assoc}
-use mathlib.Core.List.{List, [], _∷_}
-use lib.ListN.{length, getD}
-use Rattle.facts.specs.Lists.{every}
+use Rattle.facts.proofs.Prelude.{ℕ, zero, suc, _+_, _-_, _≤_, arith, add-zero, Bool, true, false, _&&_, and-assoc, List, [], _∷_, _≡_, refl, sym, length, getD, every}
 use Rattle.model.specs.declared.Hole.{Hole}
 use Rattle.arena.specs.Load.{loadHole, loadHoles}
 use Rattle.runs.specs.way.Scan.{foldHoles}

@@ -2,16 +2,8 @@
 --     plan-fits      a chosen hole is stored, long enough, and within the hole pages and the frontier
 --     clamp-commit, clamp-grow, clamp-growth    a run of more pages than any arena has may be counted as one page more than that
 --     commit-long    a commit of more pages than any arena has goes like every other one: no hole, no room
-use Prim.Native.Nat.{ℕ, suc, _+_, _-_, _≤_, _<_}
-use native.Mathlib.Omega.{arith}
-use mathlib.Core.Bool.{true, false, cond}
-use mathlib.Core.List.{List}
-use mathlib.Core.Option.{Option}
-use mathlib.Core.Path.{_≡_, refl, sym, ap, _∙_}
-use lib.Dec.{eqb, leb}
-use lib.ListN.{length}
-use borrow.Author.Tests.{leb-true, leb-false, lt-leb}
-use Rattle.facts.proofs.Bools.{by-cases, and-left, and-right, and-no}
+use Rattle.facts.proofs.Prelude.{ℕ, suc, _+_, _-_, _≤_, _<_, arith, true, false, cond, List, Option, _≡_, refl, sym, ap}
+use Rattle.facts.proofs.Prelude.{_∙_, eqb, leb, length, leb-true, leb-false, lt-leb, by-cases, and-left, and-right, and-no}
 use Rattle.words.specs.Limits.{maxPages}
 use Rattle.fields.specs.Field.{arena, frontier, holes, holePages, held, get, words}
 use Rattle.model.specs.declared.Hole.{Hole}

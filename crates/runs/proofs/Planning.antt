@@ -5,14 +5,7 @@
 --     plans-none, plans-invalid, plans-found    the plan, of what a search answers
 --     touches-done                              the way out of `neighbours`
 --     ends-again, ends-done                     the test of a give's range: a hole is tested; none is left
-use mathlib.Core.Path.{_≡_, refl, sym, ap, _∙_, subst}
-use Prim.Native.Nat.{ℕ, _-_, _<_, _≤_, _^_}
-use native.Mathlib.Omega.{arith}
-use mathlib.Core.Bool.{Bool, true, false, not, _&&_, true≢false}
-use mathlib.Core.List.{List, []}
-use borrow.Author.Tests.{not-true}
-use Rattle.facts.specs.Lists.{every}
-use Rattle.facts.proofs.Bools.{by-cases}
+use Rattle.facts.proofs.Prelude.{ℕ, _-_, _<_, _≤_, _^_, arith, Bool, true, false, not, _&&_, true≢false, List, [], _≡_, refl, sym, ap, _∙_, subst, not-true, every, by-cases}
 use Rattle.model.specs.declared.Hole.{Hole}
 use Rattle.model.specs.HoleStore.{leastFit}
 use Rattle.arena.specs.Load.{loadHole, loadHoles}

@@ -1,16 +1,6 @@
 -- The ways out of the functions, over plain values.
-use Prim.Native.Nat.{ℕ, zero, suc, _+_, _-_, _≤_, _<_}
-use native.Mathlib.Omega.{arith}
-use native.Mathlib.Numerals.{add-one}
-use mathlib.Core.Bool.{Bool, false}
-use mathlib.Core.List.{List}
-use mathlib.Core.Option.{Option}
-use mathlib.Core.Path.{_≡_, refl, sym, ap, _∙_, subst}
-use lib.Dec.{leb}
-use lib.ListN.{length}
-use borrow.Author.Tests.{lt-ltb, le-ltb, le-leb, lt-leb, eq-eqb, ne-eqb}
-use Rattle.facts.specs.Lists.{every}
-use Rattle.facts.proofs.Bools.{and-no}
+use Rattle.facts.proofs.Prelude.{ℕ, zero, suc, _+_, _-_, _≤_, _<_, arith, add-one, Bool, false, List, Option, _≡_, refl, sym}
+use Rattle.facts.proofs.Prelude.{ap, _∙_, subst, leb, length, lt-ltb, le-ltb, le-leb, lt-leb, eq-eqb, ne-eqb, every, and-no}
 use Rattle.words.specs.Limits.{holeSlots, holePagesMax}
 use Rattle.fields.specs.Field as Field
 use Rattle.fields.specs.Field.{arena, page, owner, state, frontier, holes, holePages, held, pages, get, put}

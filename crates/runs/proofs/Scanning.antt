@@ -1,12 +1,7 @@
 -- A scan of the first `count` holes of a slice, the last one first: what a turn of `scan` or `touch` uses.
 --     scan-start    before the first turn
 --     scan-step     the hole at j is weighed after those behind it
-use mathlib.Core.Path.{_≡_, sym, ap, _∙_}
-use Prim.Native.Nat.{ℕ, suc, _+_, _-_, _<_, _≤_}
-use native.Mathlib.Omega.{arith}
-use mathlib.Core.List.{List}
-use lib.ListN.{length, getD, take, drop, drop-of-length-le}
-use lib.Seq.{drop-cons, getD-take, length-take-le}
+use Rattle.facts.proofs.Prelude.{ℕ, suc, _+_, _-_, _<_, _≤_, arith, List, _≡_, sym, ap, _∙_, length, getD, take, drop, drop-of-length-le, drop-cons, getD-take, length-take-le}
 use Rattle.model.specs.declared.Hole.{Hole}
 use Rattle.runs.specs.way.Scan.{noHole, foldHoles}
 

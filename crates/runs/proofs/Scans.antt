@@ -10,8 +10,7 @@ use types.Tokens.{lent-back}
 use denote.Array.{array-vals, array-tells, array-makes}
 use denote.Steps.{only}
 use denote.Lend.{lends-shr-slice}
-use lib.Dec.{lit<, T as So}
-use lib.Seq.{take-all}
+use Rattle.facts.proofs.Prelude.{lit<, T as So, take-all}
 use Rattle.runs.proofs.Laid.{laid, lifted}
 use contract.Monad.{fact}
 use denote.Exit.{yes, Last}

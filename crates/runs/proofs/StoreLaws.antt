@@ -4,16 +4,8 @@
 --     holes-set        one hole changed: one hole written
 --     holes-append     a hole appended: one hole written
 --     holes-removed    a hole of the loaded list used up: the last one written in its place
-use Prim.Native.Nat.{ℕ, zero, suc, _+_, _≤_, _<_}
-use native.Mathlib.Omega.{arith}
-use native.Mathlib.Nat.{add-zero}
-use mathlib.Core.Bool.{true, false}
-use mathlib.Core.List.{List, [], _∷_, _++_}
-use mathlib.Core.Path.{_≡_, refl, sym, ap, _∙_}
-use lib.Dec.{eqb, ltb, leb}
-use lib.ListN.{length}
-use borrow.Author.Tests.{lt-ltb, ltb-true, ne-eqb, ltb-false}
-use Rattle.facts.proofs.Bools.{by-cases}
+use Rattle.facts.proofs.Prelude.{ℕ, zero, suc, _+_, _≤_, _<_, arith, add-zero, true, false, List, [], _∷_, _++_, _≡_}
+use Rattle.facts.proofs.Prelude.{refl, sym, ap, _∙_, eqb, ltb, leb, length, lt-ltb, ltb-true, ne-eqb, ltb-false, by-cases}
 use Rattle.words.specs.Limits.{holeSlots}
 use Rattle.fields.specs.Field.{Field, hole, start, pages, put, same, ok, words}
 use Rattle.fields.proofs.Laws.{put-get, put-put-same, put-comm, length-put}

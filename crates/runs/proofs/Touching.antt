@@ -2,16 +2,8 @@
 --     neighbours-are    what is found among all holes is what a give finds
 --     ends-valid        the test of a hole, by differences that may wrap
 --     all-ends-valid    the test of all holes
-use mathlib.Core.Path.{_≡_, refl}
-use Prim.Native.Nat.{ℕ, suc, _+_, _%_, _<_, _^_}
-use native.Mathlib.Omega.{arith}
-use mathlib.Core.Bool.{Bool, true, cond, _&&_}
-use mathlib.Core.List.{List, [], _∷_}
-use mathlib.Core.Option.{Option, none, some}
-use lib.Dec.{leb, ltb}
-use borrow.Author.Tests.{leb-true, leb-false, lt-leb, lt-ltb, le-ltb}
-use Rattle.facts.specs.Lists.{every}
-use Rattle.facts.proofs.Bools.{by-cases, and-no}
+use Rattle.facts.proofs.Prelude.{ℕ, suc, _+_, _%_, _<_, _^_, arith, Bool, true, cond, _&&_, List, [], _∷_, Option, none, some}
+use Rattle.facts.proofs.Prelude.{_≡_, refl, leb, ltb, leb-true, leb-false, lt-leb, lt-ltb, le-ltb, every, by-cases, and-no}
 use Rattle.model.specs.declared.Hole.{Hole}
 use Rattle.model.specs.HoleStore.{next, lowestThat, endsAt, startsAt, holeBefore, holeAfter}
 use Rattle.arena.specs.Valid.{holeEndsValid}

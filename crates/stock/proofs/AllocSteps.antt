@@ -1,12 +1,6 @@
 -- The ways out of an alloc.
-use Prim.Native.Nat.{ℕ, _-_}
-use native.Mathlib.Omega.{arith}
-use mathlib.Core.Bool.{Bool, true, false, not}
-use mathlib.Core.List.{List}
-use mathlib.Core.Path.{_≡_, refl, sym, ap, _∙_}
+use Rattle.facts.proofs.Prelude.{ℕ, _-_, arith, Bool, true, false, not, List, _≡_, refl, sym, ap, _∙_, length, getD, length-take, eq-eqb, ne-eqb, not-true, not-false}
 use lib.ListN as ListN
-use lib.ListN.{length, getD, length-take}
-use borrow.Author.Tests.{eq-eqb, ne-eqb, not-true, not-false}
 use Rattle.words.specs.Word.{blockWord}
 use Rattle.classes.specs.Shape.{shapeOf}
 use Rattle.classes.proofs.Shapes.{shape-sound}

@@ -1,12 +1,6 @@
 -- The ways out of a free.
-use Prim.Native.Nat.{ℕ, _+_, _*_, _%_, _^_, _≤_, _<_}
-use native.Mathlib.Omega.{arith}
-use mathlib.Core.Bool.{Bool, true, false, cond, not, and-true, true≢false}
-use mathlib.Core.List.{List, [], _∷_}
-use mathlib.Core.Path.{_≡_, refl, sym, ap, _∙_}
-use lib.Dec.{eqb, ltb, leb}
-use borrow.Author.Tests.{le-ltb, le-leb, lt-leb, eq-eqb, eqb-true, leb-false, not-true}
-use Rattle.facts.proofs.Bools.{by-cases, and-no, and-left, and-right}
+use Rattle.facts.proofs.Prelude.{ℕ, _+_, _*_, _%_, _^_, _≤_, _<_, arith, Bool, true, false, cond, not, and-true, true≢false, List, [], _∷_, _≡_, refl, sym}
+use Rattle.facts.proofs.Prelude.{ap, _∙_, eqb, ltb, leb, le-ltb, le-leb, lt-leb, eq-eqb, eqb-true, leb-false, not-true, by-cases, and-no, and-left, and-right}
 use Rattle.words.specs.Word.{kindOf, granuleOf, blockWord}
 use Rattle.classes.specs.Shape.{shapeOf}
 use Rattle.model.specs.Release.{ofKind}

@@ -1,8 +1,5 @@
 -- The ways out of `give`.
-use Prim.Native.Nat.{ℕ, zero, suc}
-use mathlib.Core.Bool.{Bool, true, false}
-use mathlib.Core.List.{List, [], _∷_}
-use mathlib.Core.Path.{_≡_, refl, sym, _∙_}
+use Rattle.facts.proofs.Prelude.{ℕ, zero, suc, Bool, true, false, List, [], _∷_, _≡_, refl, sym, _∙_}
 use Rattle.classes.specs.declared.Shape.{Shape}
 use Rattle.classes.specs.Shape.{shapeOf}
 use Rattle.classes.proofs.Shapes.{shape-sound}

@@ -1,18 +1,9 @@
 -- The ways out of the tests whether a word is a block out in the class.
-use Prim.Native.Nat.{ℕ, suc, _+_, _-_, _*_, _/_, _%_, _^_, _≤_, _<_}
-use native.Mathlib.Omega.{arith}
-use native.Mathlib.Nat.{add-zero, div-add-mod', le-div-iff-mul-le}
-use mathlib.Core.Bool.{Bool, true, false, _&&_, and-true, true≢false}
-use mathlib.Core.List.{List}
-use mathlib.Core.Path.{_≡_, refl, sym, ap, _∙_}
-use lib.Dec.{eqb, ltb, leb}
-use lib.ListN.{length}
+use Rattle.facts.proofs.Prelude.{ℕ, suc, _+_, _-_, _*_, _/_, _%_, _^_, _≤_, _<_, arith, add-zero, div-add-mod', le-div-iff-mul-le, Bool, true, false}
+use Rattle.facts.proofs.Prelude.{_&&_, and-true, true≢false, List, _≡_, refl, sym, ap, _∙_, eqb, ltb, leb, length, lt-ltb, le-ltb, le-leb, lt-leb, eq-eqb}
+use Rattle.facts.proofs.Prelude.{ne-eqb, eqb-true, leb-true, leb-false, ltb-true, ltb-false, every, below, by-cases, and-left, and-right, every-at}
 use mir.Val.{Fits}
 use mir.Syntax.{w32}
-use borrow.Author.Tests.{lt-ltb, le-ltb, le-leb, lt-leb, eq-eqb, ne-eqb, eqb-true, leb-true, leb-false, ltb-true, ltb-false}
-use Rattle.facts.specs.Lists.{every, below}
-use Rattle.facts.proofs.Bools.{by-cases, and-left, and-right}
-use Rattle.facts.proofs.Lists.{every-at}
 use Rattle.words.specs.Word.{granuleOf}
 use Rattle.classes.specs.declared.Shape.{Shape}
 use Rattle.classes.specs.Sizes.{smallSizes}

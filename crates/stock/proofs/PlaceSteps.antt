@@ -1,16 +1,6 @@
 -- The ways out of the functions on a stock's places, and what the loop over a list keeps.
-use Prim.Native.Nat.{ℕ, suc, _+_, _*_, _/_, _%_, _^_, _≤_, _<_}
-use native.Mathlib.Omega.{arith}
-use native.Mathlib.Nat.{mod-lt}
-use native.Mathlib.Numerals.{add-one}
-use mathlib.Core.Bool.{false}
-use mathlib.Core.List.{List, _∷_}
-use mathlib.Core.Path.{_≡_, refl, sym, ap, _∙_}
-use lib.Dec.{eqb}
-use lib.ListN.{length, getD, take, drop, length-set, length-take}
-use lib.Seq.{drop-cons, getD-take}
-use borrow.Author.Tests.{lt-ltb, le-ltb}
-use Rattle.facts.proofs.Lists.{drop-past}
+use Rattle.facts.proofs.Prelude.{ℕ, suc, _+_, _*_, _/_, _%_, _^_, _≤_, _<_, arith, mod-lt, add-one, false, List, _∷_, _≡_, refl, sym, ap, _∙_}
+use Rattle.facts.proofs.Prelude.{eqb, length, getD, take, drop, length-set, length-take, drop-cons, getD-take, lt-ltb, le-ltb, drop-past}
 use Rattle.words.specs.Word.{granuleOf}
 use Rattle.take.specs.way.TakePlan.{CallPre}
 use Rattle.poolcalls.specs.Stock.{placeAt, countIn, entryIn, placeIn, stocked, putCount, putEntry, putPlace, put, pushed, putAll}

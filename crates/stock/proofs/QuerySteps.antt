@@ -1,12 +1,6 @@
 -- The ways out of the look at a class's pool.
-use Prim.Native.Nat.{ℕ, _+_, _*_, _%_, _^_, _≤_, _<_}
-use native.Mathlib.Omega.{arith}
-use mathlib.Core.Bool.{Bool, true, false, _&&_, and-true}
-use mathlib.Core.List.{List}
-use mathlib.Core.Path.{_≡_, sym}
-use lib.Dec.{leb}
-use borrow.Author.Tests.{le-ltb, le-leb, lt-leb, eq-eqb, ne-eqb, leb-true, leb-false}
-use Rattle.facts.proofs.Bools.{by-cases, and-no}
+use Rattle.facts.proofs.Prelude.{ℕ, _+_, _*_, _%_, _^_, _≤_, _<_, arith, Bool, true, false, _&&_, and-true, List, _≡_}
+use Rattle.facts.proofs.Prelude.{sym, leb, le-ltb, le-leb, lt-leb, eq-eqb, ne-eqb, leb-true, leb-false, by-cases, and-no}
 use Rattle.words.specs.Word.{kindOf, granuleOf, blockWord}
 use Rattle.classes.specs.declared.Shape.{Shape}
 use Rattle.classes.specs.Shape.{shapeOf}

@@ -1,16 +1,8 @@
 -- Whether a stock has room, without a division.
-use Prim.Native.Nat.{ℕ, _+_, _*_, _/_, _^_, _≤_, _<_}
-use native.Mathlib.Omega.{arith}
-use native.Mathlib.Nat.{mul-le-mul, le-div-iff-mul-le}
-use mathlib.Core.Bool.{Bool, true, false, not}
-use mathlib.Core.Path.{_≡_, refl, sym, ap, _∙_}
-use lib.Dec.{eqb, ltb, leb}
+use Rattle.facts.proofs.Prelude.{ℕ, _+_, _*_, _/_, _^_, _≤_, _<_, arith, mul-le-mul, le-div-iff-mul-le, Bool, true, false, not, _≡_, refl, sym, ap, _∙_, eqb}
+use Rattle.facts.proofs.Prelude.{ltb, leb, lt-ltb, le-ltb, le-leb, lt-leb, eqb-true, ltb-true, ltb-false, leb-true, leb-false, every, below, by-cases, every-at}
 use mir.Val.{Fits}
 use mir.Syntax.{w32}
-use borrow.Author.Tests.{lt-ltb, le-ltb, le-leb, lt-leb, eqb-true, ltb-true, ltb-false, leb-true, leb-false}
-use Rattle.facts.specs.Lists.{every, below}
-use Rattle.facts.proofs.Bools.{by-cases}
-use Rattle.facts.proofs.Lists.{every-at}
 use Rattle.classes.specs.declared.Shape.{Shape}
 use Rattle.classes.specs.Sizes.{smallSizes}
 use Rattle.classes.specs.Shape.{shapeOf, smallShape}

@@ -1,13 +1,6 @@
 -- The block on top of a stock: number 13, and its word.
-use Prim.Native.Nat.{ℕ, _-_, _*_, _%_, _^_, _≤_, _<_}
-use native.Mathlib.Omega.{arith}
-use native.Mathlib.Nat.{mod-eq-of-lt}
-use mathlib.Core.Bool.{Bool, false, not}
-use mathlib.Core.List.{List}
-use mathlib.Core.Path.{_≡_, sym, ap, _∙_}
-use lib.Dec.{ltb, leb}
-use borrow.Author.Tests.{lt-ltb, le-ltb, le-leb, lt-leb, leb-true, not-false}
-use Rattle.facts.proofs.Bools.{and-left}
+use Rattle.facts.proofs.Prelude.{ℕ, _-_, _*_, _%_, _^_, _≤_, _<_, arith, mod-eq-of-lt, Bool, false, not, List, _≡_}
+use Rattle.facts.proofs.Prelude.{sym, ap, _∙_, ltb, leb, lt-ltb, le-ltb, le-leb, lt-leb, leb-true, not-false, and-left}
 use Rattle.words.specs.Word.{blockWord, packBlock}
 use Rattle.classes.specs.Shape.{shapeOf, smallShape, mediumShape}
 use Rattle.classes.proofs.Shapes.{shape-sound}

@@ -1,9 +1,5 @@
 -- The ways out of a trim.
-use Prim.Native.Nat.{ℕ, _-_}
-use mathlib.Core.Bool.{Bool, true, false, not}
-use mathlib.Core.List.{List, [], _∷_}
-use mathlib.Core.Path.{_≡_, refl, sym, ap, _∙_}
-use borrow.Author.Tests.{eq-eqb, ne-eqb, not-true, not-false}
+use Rattle.facts.proofs.Prelude.{ℕ, _-_, Bool, true, false, not, List, [], _∷_, _≡_, refl, sym, ap, _∙_, eq-eqb, ne-eqb, not-true, not-false}
 use Rattle.words.specs.Word.{blockWord}
 use Rattle.classes.specs.Shape.{shapeOf}
 use Rattle.calls.specs.Release.{releaseBlocks}

@@ -1,14 +1,7 @@
 -- What a class table's call answers and leaves, by each of its tests. Of a test s is what it answered, and what the function that
 -- tests it ensures.
-use Prim.Native.Nat.{ℕ, _%_, _≤_, _<_}
-use mathlib.Core.Path.{_≡_, refl, sym, _∙_}
-use mathlib.Core.Bool.{Bool, true, false, not, _||_}
-use mathlib.Core.List.{List, _++_}
-use native.Mathlib.Nat.{pos-of-ne-zero}
-use lib.Dec.{eqb, ltb, leb}
-use lib.ListN.{length, drop}
-use borrow.Author.Tests.{lt-ltb, le-ltb, eq-eqb, ne-eqb, ltb-false, leb-false, eqb-false}
-use Rattle.facts.proofs.Bools.{nor-left, nor-right}
+use Rattle.facts.proofs.Prelude.{ℕ, _%_, _≤_, _<_, pos-of-ne-zero, Bool, true, false, not, _||_, List, _++_, _≡_, refl, sym, _∙_, eqb, ltb}
+use Rattle.facts.proofs.Prelude.{leb, length, drop, lt-ltb, le-ltb, eq-eqb, ne-eqb, ltb-false, leb-false, eqb-false, nor-left, nor-right}
 use Rattle.classes.specs.Sizes.{granuleBytes, maxMediumSize}
 use Rattle.tables.specs.Table.{table, lastSize, maxRate, badRate, badTop, badSlots, Growth, classTable, TableEnds}
 

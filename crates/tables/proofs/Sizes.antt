@@ -1,12 +1,6 @@
 -- Laws of the definitions of `specs/Table`: the bounds of a growth, and one step of the list of sizes.
-use Prim.Native.Nat.{ℕ, zero, suc, _+_, _-_, _*_, _≤_, _<_}
-use mathlib.Core.Path.{_≡_, refl, sym, ap, _∙_}
-use mathlib.Core.List.{List, [], _∷_, _++_, append-assoc, append-nil}
-use native.Mathlib.Nat.{mul-le-mul, div-le-self}
-use native.Mathlib.Omega.{arith}
-use native.Mathlib.Numerals.{add-one, unary-clauses}
-use lib.ListN.{length, getD, take, drop, set, take-append-drop}
-use lib.Seq.{take-suc-set}
+use Rattle.facts.proofs.Prelude.{ℕ, zero, suc, _+_, _-_, _*_, _≤_, _<_, arith, mul-le-mul, div-le-self, add-one, unary-clauses, List, [], _∷_, _++_}
+use Rattle.facts.proofs.Prelude.{append-assoc, append-nil, _≡_, refl, sym, ap, _∙_, length, getD, take, drop, set, take-append-drop, take-suc-set}
 use Rattle.tables.specs.Table.{nextSize, sizesFrom, quotientUp, Growth}
 
 pub grown-bound : {a b top : ℕ} (size : ℕ) → Growth a b top → size ≤ top → size * a ≤ 65472000

@@ -1,15 +1,7 @@
 -- Class tables: each size comes from the one before as document 02 says, neighbours below the top rise, what reaches the top stays there,
 -- and 9, 8, 16,384, 64 give the small class table.
-use Prim.Native.Nat.{ℕ, zero, suc, _+_, _-_, _*_, _≤_, _<_}
-use mathlib.Core.Path.{_≡_, refl}
-use mathlib.Core.Logic.{inl, inr}
-use native.Mathlib.Nat.{mul-le-mul-left, suc-mul, mul-suc, le-div-iff-mul-le, div-lt-iff-lt-mul}
-use native.Mathlib.Numerals.{add-one}
-use native.Mathlib.Omega.{arith}
-use lib.Dec.{ltb}
-use lib.ListN.{getD}
-use borrow.Author.Tests.{ltb-true, ltb-false}
-use Rattle.facts.proofs.Bools.{by-cases}
+use Rattle.facts.proofs.Prelude.{ℕ, zero, suc, _+_, _-_, _*_, _≤_, _<_, arith, mul-le-mul-left, suc-mul, mul-suc, le-div-iff-mul-le}
+use Rattle.facts.proofs.Prelude.{div-lt-iff-lt-mul, add-one, inl, inr, _≡_, refl, ltb, getD, ltb-true, ltb-false, by-cases}
 use Rattle.classes.specs.Sizes.{smallSizes, granuleBytes}
 use Rattle.tables.specs.Table.{quotientUp, wholeUp, cutAt, nextSize, sizesFrom, table, Growth}
 use Rattle.tables.specs.Meaning.{RoundedUp, Grows}

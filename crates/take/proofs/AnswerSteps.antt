@@ -1,12 +1,6 @@
 -- What an answer tells: a refusal's number, or the count; and the same through out-parameters.
-use Prim.Native.Nat.{ℕ, zero, suc}
-use native.Mathlib.Omega.{arith}
-use mathlib.Core.Bool.{Bool}
-use mathlib.Core.List.{List}
-use mathlib.Core.Path.{_≡_, refl, sym, ap, _∙_}
+use Rattle.facts.proofs.Prelude.{ℕ, zero, suc, arith, Bool, List, _≡_, refl, sym, ap, _∙_, eqb, ne-eqb}
 use mir.Val.{boolByte}
-use lib.Dec.{eqb}
-use borrow.Author.Tests.{ne-eqb}
 use Rattle.words.proofs.Answers.{eqb-digit, byte-digit}
 use Rattle.words.specs.Host.{digit}
 use Rattle.take.specs.declared.call.Take.{Take}

@@ -2,15 +2,8 @@
 --     Turned        a turn of the fill leaves a book whose walk passes, with what the walk had found beyond the first page
 --     turned        every turn does
 --     fill-planned  so the fill yields what was planned
-use Prim.Native.Nat.{ℕ, zero, suc, _-_, _≤_}
-use native.Mathlib.Omega.{arith}
-use mathlib.Core.Bool.{Bool, true, false, _&&_, _||_}
-use mathlib.Core.List.{List, [], _∷_, map}
-use mathlib.Core.Path.{_≡_, refl, sym, ap, _∙_}
-use lib.Dec.{eqb, ltb, leb}
-use lib.ListN.{length, length-append}
-use borrow.Author.Tests.{lt-ltb, leb-true, eq-eqb, ne-eqb}
-use Rattle.facts.proofs.Bools.{by-cases, or-right}
+use Rattle.facts.proofs.Prelude.{ℕ, zero, suc, _-_, _≤_, arith, Bool, true, false, _&&_, _||_, List, [], _∷_, map, _≡_, refl, sym}
+use Rattle.facts.proofs.Prelude.{ap, _∙_, eqb, ltb, leb, length, length-append, lt-ltb, leb-true, eq-eqb, ne-eqb, by-cases, or-right}
 use Rattle.classes.specs.declared.Shape.{Shape}
 use Rattle.classes.specs.way.Sound.{Sound}
 use Rattle.fields.specs.Field.{Field, arena, class, page, out, frontier, partial, next, prev, free, carved, virgin, region, off, get, ok, words}

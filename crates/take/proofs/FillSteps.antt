@@ -1,14 +1,6 @@
 -- The ways out of the functions that fill a take's list, and what the loop keeps.
-use Prim.Native.Nat.{ℕ, zero, suc, _+_, _-_, _≤_, _<_}
-use native.Mathlib.Omega.{arith}
-use mathlib.Core.Bool.{Bool, true, false, not}
-use mathlib.Core.List.{List, _++_, map, append-assoc}
-use mathlib.Core.Path.{_≡_, refl, sym, ap, _∙_}
-use lib.Dec.{eqb}
-use lib.ListN.{length, take, drop, length-append}
-use lib.Seq.{length-take-le, drop-at}
-use borrow.Author.Tests.{lt-ltb, le-leb, leb-true, not-true, not-false}
-use Rattle.facts.proofs.Bools.{by-cases}
+use Rattle.facts.proofs.Prelude.{ℕ, zero, suc, _+_, _-_, _≤_, _<_, arith, Bool, true, false, not, List, _++_, map, append-assoc, _≡_, refl, sym, ap, _∙_}
+use Rattle.facts.proofs.Prelude.{eqb, length, take, drop, length-append, length-take-le, drop-at, lt-ltb, le-leb, leb-true, not-true, not-false, by-cases}
 use Rattle.classes.specs.declared.Shape.{Shape}
 use Rattle.fields.specs.Field.{arena, class, page, frontier, partial, next, prev, free, carved, virgin, words, get}
 use Rattle.model.specs.Page.{wordOf}

@@ -1,16 +1,7 @@
 -- Every block that a take answers lies in the arena, on any book: its page is one of a run that the plan found whole, or that the arena gave.
-use Prim.Native.Nat.{ℕ, zero, suc, _+_, _-_, _*_, _≤_, _<_}
-use native.Mathlib.Omega.{arith}
-use native.Mathlib.Nat.{mul-le-mul-right}
-use mathlib.Core.Bool.{Bool, true, false, cond, not}
-use mathlib.Core.List.{List, [], _∷_, _++_, map}
-use mathlib.Core.Option.{Option, none, some}
-use mathlib.Core.Path.{_≡_, refl, _∙_}
-use lib.Dec.{eqb, ltb, leb}
-use lib.ListN.{length, getD}
-use borrow.Author.Tests.{ltb-true, ltb-false, leb-true, le-leb, lt-ltb, eqb-true, eqb-false, not-true, not-false}
-use Rattle.facts.specs.Lists.{All, every}
-use Rattle.facts.proofs.Bools.{by-cases, and-left, and-right}
+use Rattle.facts.proofs.Prelude.{ℕ, zero, suc, _+_, _-_, _*_, _≤_, _<_, arith, mul-le-mul-right, Bool, true, false, cond, not, List, [], _∷_}
+use Rattle.facts.proofs.Prelude.{_++_, map, Option, none, some, _≡_, refl, _∙_, eqb, ltb, leb, length, getD, ltb-true, ltb-false, leb-true}
+use Rattle.facts.proofs.Prelude.{le-leb, lt-ltb, eqb-true, eqb-false, not-true, not-false, All, every, by-cases, and-left, and-right}
 use Rattle.words.specs.Word.{granuleOf}
 use Rattle.classes.specs.declared.Shape.{Shape}
 use Rattle.classes.specs.way.Sound.{Sound}

@@ -2,15 +2,8 @@
 --     link-changes, link-head, link-prev, link-next, link-listed    the words after
 --     alone-walks      every test passes
 --     alone-planned    what the take gives
-use Prim.Native.Nat.{ℕ, zero, suc, _+_, _-_, _≤_}
-use native.Mathlib.Omega.{arith}
-use native.Mathlib.Numerals.{add-one}
-use mathlib.Core.Bool.{Bool, true, false, _&&_, _||_}
-use mathlib.Core.List.{List}
-use mathlib.Core.Path.{_≡_, refl, sym, ap, _∙_}
-use lib.Dec.{eqb, ltb, leb}
-use lib.ListN.{length}
-use borrow.Author.Tests.{le-leb, leb-true, eq-eqb, ne-eqb}
+use Rattle.facts.proofs.Prelude.{ℕ, zero, suc, _+_, _-_, _≤_, arith, add-one, Bool, true, false, _&&_, _||_, List}
+use Rattle.facts.proofs.Prelude.{_≡_, refl, sym, ap, _∙_, eqb, ltb, leb, length, le-leb, leb-true, eq-eqb, ne-eqb}
 use Rattle.classes.specs.declared.Shape.{Shape}
 use Rattle.fields.specs.Field.{Field, arena, mark, class, hole, page, out, slot, frontier, partial, next, prev, listed, virgin, classOff, pageOff, get, put, words}
 use Rattle.fields.proofs.Laws.{get-put-same, get-put-other, length-put}

@@ -1,16 +1,8 @@
 -- A page that gives blocks, on any words that passed the plan's tests.
 --     latest-small   the blocks that it gives have out bits
 --     draw-full      a page that still gives blocks gave all that were wanted
-use Prim.Native.Nat.{ℕ, _+_, _-_, _≤_, _<_, min}
-use native.Mathlib.Omega.{arith}
-use mathlib.Core.Bool.{true, not, _||_}
-use mathlib.Core.List.{List}
-use mathlib.Core.Path.{_≡_, _∙_}
-use lib.Dec.{eqb, ltb, leb}
-use lib.ListN.{length}
-use borrow.Author.Tests.{ltb-true, leb-true, eqb-true, eqb-false}
-use Rattle.facts.specs.Lists.{every}
-use Rattle.facts.proofs.Bools.{by-cases}
+use Rattle.facts.proofs.Prelude.{ℕ, _+_, _-_, _≤_, _<_, min, arith, true, not, _||_, List, _≡_, _∙_, eqb}
+use Rattle.facts.proofs.Prelude.{ltb, leb, length, ltb-true, leb-true, eqb-true, eqb-false, every, by-cases}
 use Rattle.classes.specs.declared.Shape.{Shape}
 use Rattle.fields.specs.Field.{page, free, carved, get, words}
 use Rattle.pages.specs.Stack.{topEntries, latest, draw, hasMore}

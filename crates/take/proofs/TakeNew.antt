@@ -1,13 +1,6 @@
 -- A new run on the words: a page of the class that gives blocks.
-use Prim.Native.Nat.{ℕ, suc, _+_, _-_, _≤_, _<_, min}
-use native.Mathlib.Omega.{arith}
-use mathlib.Core.Bool.{Bool, true, false, cond, not, _&&_, _||_}
-use mathlib.Core.List.{List, [], _++_}
-use mathlib.Core.Path.{_≡_, refl, ap, _∙_}
-use lib.Dec.{eqb, ltb, leb}
-use lib.ListN.{length}
-use borrow.Author.Tests.{lt-ltb, le-leb, ne-eqb}
-use Rattle.facts.specs.Lists.{every}
+use Rattle.facts.proofs.Prelude.{ℕ, suc, _+_, _-_, _≤_, _<_, min, arith, Bool, true, false, cond, not, _&&_, _||_, List}
+use Rattle.facts.proofs.Prelude.{[], _++_, _≡_, refl, ap, _∙_, eqb, ltb, leb, length, lt-ltb, le-leb, ne-eqb, every}
 use Rattle.classes.specs.declared.Shape.{Shape}
 use Rattle.classes.specs.way.Sound.{Sound}
 use Rattle.fields.specs.Field.{Field, arena, page, slot, frontier, owner, free, carved, listed, virgin, region, off, get, put, words}

@@ -1,16 +1,8 @@
 -- A page that a take's plan found sound: what the test says, and that other books with the same words of the page pass it too.
 --     Valid         what `sound` tests, by name
 --     valid-kept    it passes on a book that agrees on whose the pages are and on the page's blocks
-use Prim.Native.Nat.{ℕ, _+_, _-_, _≤_, _<_, min}
-use native.Mathlib.Omega.{arith}
-use mathlib.Core.Bool.{true, not, _||_}
-use mathlib.Core.List.{List}
-use mathlib.Core.Path.{_≡_, _∙_}
-use lib.Dec.{eqb, ltb, leb}
-use lib.ListN.{length}
-use borrow.Author.Tests.{ltb-true, le-leb, leb-true, eq-eqb, eqb-true, eqb-false}
-use Rattle.facts.specs.Lists.{every}
-use Rattle.facts.proofs.Bools.{by-cases, and-left, and-right}
+use Rattle.facts.proofs.Prelude.{ℕ, _+_, _-_, _≤_, _<_, min, arith, true, not, _||_, List, _≡_, _∙_, eqb, ltb, leb, length}
+use Rattle.facts.proofs.Prelude.{ltb-true, le-leb, leb-true, eq-eqb, eqb-true, eqb-false, every, by-cases, and-left, and-right}
 use Rattle.classes.specs.declared.Shape.{Shape}
 use Rattle.fields.specs.Field.{page, free, carved, listed, virgin, get}
 use Rattle.pages.specs.Runs.{whole}

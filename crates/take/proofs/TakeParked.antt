@@ -1,13 +1,6 @@
 -- A take from a store: its newest page becomes the partial list.
-use Prim.Native.Nat.{ℕ, suc, _+_, _-_, _≤_, _<_}
-use native.Mathlib.Omega.{arith}
-use mathlib.Core.Bool.{Bool, true, false, not, and-false}
-use mathlib.Core.List.{List}
-use mathlib.Core.Path.{_≡_, refl, sym, ap, _∙_}
-use lib.Dec.{eqb, ltb, leb}
-use lib.ListN.{length}
-use borrow.Author.Tests.{lt-ltb, le-leb, leb-true, ne-eqb, eqb-true, eqb-false, not-true, not-false}
-use Rattle.facts.proofs.Bools.{and-left, and-right}
+use Rattle.facts.proofs.Prelude.{ℕ, suc, _+_, _-_, _≤_, _<_, arith, Bool, true, false, not, and-false, List, _≡_, refl, sym, ap, _∙_, eqb, ltb}
+use Rattle.facts.proofs.Prelude.{leb, length, lt-ltb, le-leb, leb-true, ne-eqb, eqb-true, eqb-false, not-true, not-false, and-left, and-right}
 use Rattle.classes.specs.declared.Shape.{Shape}
 use Rattle.fields.specs.Field.{Field, arena, class, page, frontier, partial, next, free, carved, listed, virgin, region, get, words, Has}
 use Rattle.fields.proofs.Laws.{get-put-other}

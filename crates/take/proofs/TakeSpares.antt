@@ -1,14 +1,6 @@
 -- A take that is refused leaves the book as it was, and counts no block; none counts more blocks than the class's batch. Its blocks are the same, whatever list is lent.
-use Prim.Native.Nat.{ℕ, suc, _-_, _≤_}
-use mathlib.Core.Bool.{Bool, true, false, cond, not}
-use mathlib.Core.List.{List, [], _++_}
+use Rattle.facts.proofs.Prelude.{ℕ, suc, _-_, _≤_, arith, Bool, true, false, cond, not, List, [], _++_, Option, some, _≡_, refl, eqb, ltb, length, drop, length-append, by-cases}
 use mathlib.Core.Option as Option
-use mathlib.Core.Option.{Option, some}
-use mathlib.Core.Path.{_≡_, refl}
-use lib.Dec.{eqb, ltb}
-use native.Mathlib.Omega.{arith}
-use lib.ListN.{length, drop, length-append}
-use Rattle.facts.proofs.Bools.{by-cases}
 use Rattle.classes.specs.declared.Shape.{Shape}
 use Rattle.classes.specs.Shape.{shapeOf}
 use Rattle.classes.proofs.Shapes.{shape-sound}

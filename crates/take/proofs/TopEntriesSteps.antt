@@ -1,16 +1,8 @@
 -- The entries of a page's stack from one place on below another, and the ways out of the functions that test them.
 --     fit         each of the topmost n of a stack of t is below k
 --     fit-split   those above a place, and those below it
-use Prim.Native.Nat.{ℕ, zero, suc, _+_, _-_, _*_, _/_, _≤_, _<_}
-use native.Mathlib.Omega.{arith}
-use native.Mathlib.Nat.{zero-add, suc-add}
-use native.Mathlib.Numerals.{add-one}
-use mathlib.Core.Bool.{Bool, true, false, not, _&&_, and-assoc, and-false, and-true}
-use mathlib.Core.List.{List}
-use mathlib.Core.Path.{_≡_, refl, sym, ap, ap₂, _∙_}
-use lib.Dec.{ltb}
-use borrow.Author.Tests.{not-true, not-false}
-use Rattle.facts.specs.Lists.{every}
+use Rattle.facts.proofs.Prelude.{ℕ, zero, suc, _+_, _-_, _*_, _/_, _≤_, _<_, arith, zero-add, suc-add, add-one, Bool, true, false, not}
+use Rattle.facts.proofs.Prelude.{_&&_, and-assoc, and-false, and-true, List, _≡_, refl, sym, ap, ap₂, _∙_, ltb, not-true, not-false, every}
 use Rattle.fields.specs.Field.{slot, get}
 use Rattle.pages.specs.Stack.{topEntries}
 use Rattle.pages.proofs.TopEntries.{top-entries-cut}

@@ -5,15 +5,8 @@
 --     Step          what one turn of a passing walk tests
 --     tail-kept     a walk past the second page does not see that the first one is cut out
 --     head-kept     the second page, once it heads the list
-use Prim.Native.Nat.{ℕ, zero, suc, _+_, _-_, _≤_}
-use native.Mathlib.Omega.{arith}
-use mathlib.Core.Bool.{Bool, true, false, cond, _&&_, _||_, true≢false}
-use mathlib.Core.List.{List}
-use mathlib.Core.Path.{_≡_, refl, sym, ap, _∙_}
-use lib.Dec.{eqb, ltb, leb}
-use lib.ListN.{length}
-use borrow.Author.Tests.{leb-true, eq-eqb, ne-eqb, eqb-true}
-use Rattle.facts.proofs.Bools.{by-cases, and-left, and-right}
+use Rattle.facts.proofs.Prelude.{ℕ, zero, suc, _+_, _-_, _≤_, arith, Bool, true, false, cond, _&&_, _||_, true≢false, List, _≡_, refl}
+use Rattle.facts.proofs.Prelude.{sym, ap, _∙_, eqb, ltb, leb, length, leb-true, eq-eqb, ne-eqb, eqb-true, by-cases, and-left, and-right}
 use Rattle.classes.specs.declared.Shape.{Shape}
 use Rattle.fields.specs.Field.{Field, arena, mark, class, hole, page, out, slot, frontier, next, prev, listed, virgin, classOff, pageOff, get}
 use Rattle.fields.proofs.Changes.{Changes}

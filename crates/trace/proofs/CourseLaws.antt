@@ -1,13 +1,7 @@
 -- The words in turn: the start, one more, and the end.
-use Prim.Native.Nat.{ℕ, zero, suc, _+_, _-_, _≤_, _<_}
-use native.Mathlib.Omega.{arith}
-use native.Mathlib.Nat.{zero-add, add-zero}
-use mathlib.Core.Bool.{true, false}
-use mathlib.Core.List.{List, [], _∷_, _++_, map}
-use mathlib.Core.Path.{_≡_, refl, sym, ap, _∙_}
+use Rattle.facts.proofs.Prelude.{ℕ, zero, suc, _+_, _-_, _≤_, _<_, arith, zero-add, add-zero, true, false, List, [], _∷_, _++_, map, _≡_}
+use Rattle.facts.proofs.Prelude.{refl, sym, ap, _∙_, length, drop, getD, take-append-drop, drop-cons, drop-drop, drop-length, length-take-le}
 use lib.ListN as ListN
-use lib.ListN.{length, drop, getD, take-append-drop}
-use lib.Seq.{drop-cons, drop-drop, drop-length, length-take-le}
 use Rattle.trace.specs.declared.course.Course.{Course}
 use Rattle.trace.specs.declared.steps.Tally.{Tally}
 use Rattle.trace.specs.declared.steps.Step.{Step}

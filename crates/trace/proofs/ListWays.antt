@@ -1,10 +1,5 @@
 -- Lists that are written from a place on.
-use Prim.Native.Nat.{ℕ, zero, suc, _+_, _<_}
-use native.Mathlib.Omega.{arith}
-use mathlib.Core.List.{List, [], _∷_, _++_, map}
-use mathlib.Core.Path.{_≡_, refl, ap}
-use lib.ListN.{length, getD, set, take, drop}
-use lib.Seq.{paste, paste-suc}
+use Rattle.facts.proofs.Prelude.{ℕ, zero, suc, _+_, _<_, arith, List, [], _∷_, _++_, map, _≡_, refl, ap, length, getD, set, take, drop, paste, paste-suc}
 use Rattle.trace.specs.Words.{restoreKind}
 use Rattle.trace.specs.way.Pre.{restoreKinds}
 

@@ -1,12 +1,5 @@
 -- A take or a release that is refused leaves the book as it was, and counts no block (of a take, `Spares` of crate take).
-use Prim.Native.Nat.{ℕ}
-use mathlib.Core.Bool.{Bool, true, false, cond, not}
-use mathlib.Core.List.{List, [], _∷_, map}
-use mathlib.Core.Path.{_≡_, refl}
-use lib.Dec.{eqb}
-use lib.ListN.{length}
-use Rattle.facts.specs.Lists.{isNil, every}
-use Rattle.facts.proofs.Bools.{by-cases}
+use Rattle.facts.proofs.Prelude.{ℕ, Bool, true, false, cond, not, List, [], _∷_, map, _≡_, refl, eqb, length, isNil, every, by-cases}
 use Rattle.classes.specs.declared.Shape.{Shape}
 use Rattle.classes.specs.Shape.{shapeOf}
 use Rattle.fields.specs.Field.{page, carved, free, get}

@@ -1,13 +1,7 @@
 -- The ways out of a trace's report.
-use Prim.Native.Nat.{ℕ, _+_, _-_, _≤_, _<_}
-use native.Mathlib.Omega.{arith}
-use mathlib.Core.List.{List, [], _∷_}
-use mathlib.Core.Path.{_≡_, refl, sym, _∙_}
-use lib.Dec.{ltb}
+use Rattle.facts.proofs.Prelude.{ℕ, _+_, _-_, _≤_, _<_, arith, List, [], _∷_, _≡_, refl, sym, _∙_, ltb, length}
+use Rattle.facts.proofs.Prelude.{paste, take-paste, drop-paste, length-paste, length-take-le, lt-ltb, le-ltb}
 use lib.ListN as ListN
-use lib.ListN.{length}
-use lib.Seq.{paste, take-paste, drop-paste, length-paste, length-take-le}
-use borrow.Author.Tests.{lt-ltb, le-ltb}
 use Rattle.model.specs.declared.Figures.{Figures}
 use Rattle.direct.specs.declared.Report.{Report}
 use Rattle.direct.specs.declared.Report.the-variants.{Refused, Reported}

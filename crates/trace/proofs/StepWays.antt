@@ -1,16 +1,7 @@
 -- The ways out of a word's code.
-use Prim.Native.Nat.{ℕ, zero, suc, _+_, _-_, _*_, _^_, _≤_, _<_}
-use native.Mathlib.Omega.{arith}
-use native.Mathlib.Nat.{mod-eq-of-lt}
-use mathlib.Core.Bool.{Bool, true, false, not, _||_, false≢true}
-use mathlib.Core.List.{List, [], _∷_}
-use mathlib.Core.Path.{_≡_, refl, sym, ap, _∙_}
-use lib.Dec.{eqb}
+use Rattle.facts.proofs.Prelude.{ℕ, zero, suc, _+_, _-_, _*_, _^_, _≤_, _<_, arith, mod-eq-of-lt, Bool, true, false, not, _||_, false≢true, List, [], _∷_, _≡_, refl, sym, ap, _∙_}
+use Rattle.facts.proofs.Prelude.{eqb, length, getD, set, length-set, List·getD-eq-default, getD-take, drop-set-lt, ne-eqb, eqb-true, lt-ltb, le-ltb, not-true, not-false, by-cases}
 use lib.ListN as ListN
-use lib.ListN.{length, getD, set, length-set, List·getD-eq-default}
-use lib.Seq.{getD-take, drop-set-lt}
-use borrow.Author.Tests.{ne-eqb, eqb-true, lt-ltb, le-ltb, not-true, not-false}
-use Rattle.facts.proofs.Bools.{by-cases}
 use Rattle.words.specs.Word.{kindOf, granuleOf, packBlock}
 use Rattle.words.proofs.RoundTrip.{granule-lt}
 use Rattle.classes.specs.declared.Shape.{Shape}

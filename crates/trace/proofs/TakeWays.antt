@@ -1,16 +1,8 @@
 -- The ways out of a trace's take.
-use Prim.Native.Nat.{ℕ, _+_, _-_, _*_, _^_, _≤_, _<_}
-use native.Mathlib.Omega.{arith}
-use native.Mathlib.Nat.{mul-le-mul, le-refl}
-use mathlib.Core.Bool.{Bool, true, false, cond, not}
-use mathlib.Core.List.{List, _++_, append-assoc, append-nil}
-use mathlib.Core.Path.{_≡_, refl, sym, _∙_}
-use lib.Dec.{eqb, ltb}
+use Rattle.facts.proofs.Prelude.{ℕ, _+_, _-_, _*_, _^_, _≤_, _<_, arith, mul-le-mul, le-refl, Bool, true, false, cond, not, List, _++_, append-assoc, append-nil}
+use Rattle.facts.proofs.Prelude.{_≡_, refl, sym, _∙_, eqb, ltb, length, drop, length-drop, take-append-drop, paste, paste-zero, take-paste, drop-paste, length-paste}
+use Rattle.facts.proofs.Prelude.{length-take-le, take-length, drop-length, drop-drop, take-append-seam, ne-eqb, lt-ltb, le-ltb, ltb-true, ltb-false, by-cases}
 use lib.ListN as ListN
-use lib.ListN.{length, drop, length-drop, take-append-drop}
-use lib.Seq.{paste, paste-zero, take-paste, drop-paste, length-paste, length-take-le, take-length, drop-length, drop-drop, take-append-seam}
-use borrow.Author.Tests.{ne-eqb, lt-ltb, le-ltb, ltb-true, ltb-false}
-use Rattle.facts.proofs.Bools.{by-cases}
 use Rattle.classes.specs.Shape.{shapeOf}
 use Rattle.classes.proofs.Shapes.{shape-sound}
 use Rattle.calls.specs.Take as Heap

@@ -1,10 +1,5 @@
 -- The ways out of the calls that a trace's words stand for.
-use Prim.Native.Nat.{ℕ, _-_, _≤_, _<_}
-use native.Mathlib.Omega.{arith}
-use mathlib.Core.Bool.{Bool, true, false}
-use mathlib.Core.List.{List, [], _∷_}
-use mathlib.Core.Path.{_≡_, refl}
-use borrow.Author.Tests.{lt-ltb, le-ltb, le-leb, lt-leb}
+use Rattle.facts.proofs.Prelude.{ℕ, _-_, _≤_, _<_, arith, Bool, true, false, List, [], _∷_, _≡_, refl, lt-ltb, le-ltb, le-leb, lt-leb}
 use Rattle.classes.specs.Shape.{shapeOf}
 use Rattle.classes.proofs.Shapes.{shape-sound}
 use Rattle.fields.specs.Field.{page, owner, get}

@@ -1,10 +1,5 @@
 -- The ways out of one word: what it says, and the call's own way.
-use Prim.Native.Nat.{ℕ, _/_, _%_, _<_, _≤_}
-use mathlib.Core.Bool.{Bool, true, false, _&&_}
-use mathlib.Core.List.{List}
-use mathlib.Core.Path.{_≡_, refl}
-use lib.Dec.{eqb}
-use borrow.Author.Tests.{ne-eqb, lt-ltb, le-ltb}
+use Rattle.facts.proofs.Prelude.{ℕ, _/_, _%_, _<_, _≤_, Bool, true, false, _&&_, List, _≡_, refl, eqb, ne-eqb, lt-ltb, le-ltb}
 use Rattle.trace.specs.declared.steps.Tally.{Tally}
 use Rattle.trace.specs.declared.steps.Step.{Step}
 use Rattle.trace.specs.declared.steps.Step.the-variants.{Stops}

@@ -1,11 +1,5 @@
 -- The ways out of the exported group release.
-use Prim.Native.Nat.{ℕ}
-use native.Mathlib.Omega.{arith}
-use mathlib.Core.Bool.{true}
-use mathlib.Core.List.{List}
-use mathlib.Core.Path.{_≡_, refl}
-use lib.Dec.{ltb}
-use borrow.Author.Tests.{eq-eqb, ne-eqb, lt-ltb}
+use Rattle.facts.proofs.Prelude.{ℕ, arith, true, List, _≡_, refl, ltb, eq-eqb, ne-eqb, lt-ltb}
 use Rattle.classes.specs.declared.Shape.{Shape}
 use Rattle.classes.specs.Shape.{shapeOf, smallShape}
 use Rattle.fields.specs.Field.{arena, size, get}

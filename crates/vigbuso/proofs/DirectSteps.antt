@@ -1,16 +1,7 @@
 -- The ways out of the exported calls that go straight to the arena.
-use Prim.Native.Nat.{ℕ, zero, suc, _≤_}
-use native.Mathlib.Omega.{arith}
-use mathlib.Core.Bool.{Bool, true, false}
-use mathlib.Core.List.{List}
-use mathlib.Core.Option.{none}
-use mathlib.Core.Path.{_≡_, refl, sym, ap, _∙_}
-use lib.Dec.{leb}
-use lib.ListN.{length}
+use Rattle.facts.proofs.Prelude.{ℕ, zero, suc, _≤_, arith, Bool, true, false, List, none, _≡_, refl, sym, ap, _∙_, leb, length, leb-true, eq-eqb, ne-eqb, and-right}
 use mir.Val.{Fits, boolByte}
 use mir.Syntax.{w32}
-use borrow.Author.Tests.{leb-true, eq-eqb, ne-eqb}
-use Rattle.facts.proofs.Bools.{and-right}
 use Rattle.words.specs.Host.{digit}
 use Rattle.words.proofs.Answers.{byte-digit}
 use Rattle.rules.specs.Rules.{rowsFault, rulesOf}

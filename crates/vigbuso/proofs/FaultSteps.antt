@@ -3,16 +3,10 @@
 --     class-book, class-below    no number from 1 to 4: neither 1 nor 2, and the class is one of ours
 --     admits-book, admits-class    the same of `admits`
 --     id-fits         so that its id is a number of 32 bits
-use Prim.Native.Nat.{ℕ, _+_, _≤_, _<_}
-use mathlib.Core.Bool.{Bool, true, false, cond, true≢false}
-use mathlib.Core.List.{List}
-use mathlib.Core.Path.{_≡_, refl, sym, _∙_}
-use lib.Dec.{eqb, ltb, leb}
+use Rattle.facts.proofs.Prelude.{ℕ, _+_, _≤_, _<_, arith, Bool, true, false, cond, true≢false, List, _≡_, refl, sym, _∙_, eqb}
+use Rattle.facts.proofs.Prelude.{ltb, leb, eq-eqb, ne-eqb, eqb-true, le-leb, lt-leb, leb-false, ltb-true, and-left, and-right}
 use mir.Val.{Fits}
 use mir.Syntax.{w32}
-use borrow.Author.Tests.{eq-eqb, ne-eqb, eqb-true, le-leb, lt-leb, leb-false, ltb-true}
-use native.Mathlib.Omega.{arith}
-use Rattle.facts.proofs.Bools.{and-left, and-right}
 use Rattle.words.specs.Host.{badHost}
 use Rattle.fields.specs.Ranges.{metaFault}
 use Rattle.vigbuso.specs.Faults.{callFault, classFault, admits}

@@ -1,10 +1,5 @@
 -- The ways out of the exported calls of the pool.
-use Prim.Native.Nat.{ℕ, _-_, _≤_, _<_}
-use native.Mathlib.Omega.{arith}
-use mathlib.Core.Bool.{Bool, true, false, cond, _&&_}
-use mathlib.Core.List.{List}
-use mathlib.Core.Path.{_≡_, refl, sym, _∙_}
-use borrow.Author.Tests.{eq-eqb, ne-eqb, le-leb, lt-leb}
+use Rattle.facts.proofs.Prelude.{ℕ, _-_, _≤_, _<_, arith, Bool, true, false, cond, _&&_, List, _≡_, refl, sym, _∙_, eq-eqb, ne-eqb, le-leb, lt-leb}
 use Rattle.classes.specs.Shape.{shapeOf}
 use Rattle.fields.specs.Field.{arena, size, get}
 use Rattle.fields.specs.Ranges.{metaFault}

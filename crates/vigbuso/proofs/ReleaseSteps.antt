@@ -1,9 +1,5 @@
 -- The ways out of the exported releases by list.
-use Prim.Native.Nat.{ℕ, zero, suc, _+_, _≤_, _<_}
-use native.Mathlib.Omega.{arith}
-use mathlib.Core.List.{List}
-use mathlib.Core.Path.{_≡_, refl, sym, _∙_}
-use borrow.Author.Tests.{eq-eqb, ne-eqb}
+use Rattle.facts.proofs.Prelude.{ℕ, zero, suc, _+_, _≤_, _<_, arith, List, _≡_, refl, sym, _∙_, eq-eqb, ne-eqb}
 use Rattle.classes.specs.declared.Shape.{Shape}
 use Rattle.classes.specs.Shape.{shapeOf}
 use Rattle.classes.proofs.Shapes.{shape-sound}

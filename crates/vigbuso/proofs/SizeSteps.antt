@@ -1,6 +1,5 @@
 -- The lookup's three answers.
-use Prim.Native.Nat.{ℕ}
-use mathlib.Core.Path.{_≡_, refl, sym, _∙_}
+use Rattle.facts.proofs.Prelude.{ℕ, _≡_, refl, sym, _∙_}
 use Rattle.words.specs.Word.{noneKind, smallKind, mediumKind}
 use Rattle.classes.specs.declared.Sized.{Sized}
 use Rattle.classes.specs.declared.Sized.the-variants.{Small, Medium, TooLarge}

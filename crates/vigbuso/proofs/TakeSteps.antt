@@ -1,11 +1,5 @@
 -- The ways out of the exported takes.
-use Prim.Native.Nat.{ℕ, zero, suc, _+_, _≤_}
-use native.Mathlib.Omega.{arith}
-use mathlib.Core.Bool.{Bool, false, cond}
-use mathlib.Core.List.{List}
-use mathlib.Core.Path.{_≡_, refl, _∙_}
-use lib.Dec.{eqb}
-use borrow.Author.Tests.{eq-eqb, ne-eqb}
+use Rattle.facts.proofs.Prelude.{ℕ, zero, suc, _+_, _≤_, arith, Bool, false, cond, List, _≡_, refl, _∙_, eqb, eq-eqb, ne-eqb}
 use Rattle.fields.specs.Field.{arena, size, get}
 use Rattle.classes.specs.Shape.{shapeOf}
 use Rattle.words.specs.Host.{digit}

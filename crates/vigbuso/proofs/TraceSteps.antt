@@ -1,11 +1,5 @@
 -- The ways out of the exported trace.
-use Prim.Native.Nat.{ℕ}
-use mathlib.Core.List.{List, [], _∷_}
-use mathlib.Core.Path.{_≡_, refl}
-use lib.Dec.{leb}
-use lib.ListN.{length}
-use borrow.Author.Tests.{leb-true, eq-eqb, ne-eqb}
-use Rattle.facts.proofs.Bools.{and-right}
+use Rattle.facts.proofs.Prelude.{ℕ, List, [], _∷_, _≡_, refl, leb, length, leb-true, eq-eqb, ne-eqb, and-right}
 use Rattle.rules.specs.Rules.{rulesOf}
 use Rattle.fields.specs.Field.{words}
 use Rattle.fields.specs.Ranges.{maxPages, lengthFault}

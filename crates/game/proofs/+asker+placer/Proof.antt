@@ -1,13 +1,6 @@
 -- The proof of the cycle of calls {asker, placer}: the asker with k moves left calls the placer and itself with k - 1, and the placer
 -- calls the asker with the moves that it was given, so the measure is 2k for the asker and 2k + 1 for the placer.
-use Prim.Native.Nat.{ℕ, _+_, _-_, _≤_, _<_}
-use mathlib.Core.Path.{_≡_, refl, sym, subst, _∙_}
-use mathlib.Core.Bool.{true, false}
-use mathlib.Core.Logic.{⊎-elim}
-use native.Mathlib.Nat.{pos-of-ne-zero}
-use native.Mathlib.Omega.{arith}
-use borrow.Author.Needs.{needs}
-use borrow.Author.Tests.{not-true, not-false}
+use Rattle.facts.proofs.Prelude.{ℕ, _+_, _-_, _≤_, _<_, arith, pos-of-ne-zero, true, false, ⊎-elim, _≡_, refl, sym, subst, _∙_, needs, not-true, not-false}
 use Rattle.game.specs.Game.{live, someBelow, everyBelow, asking, releasing, placing, wins}
 use Rattle.game.proofs.Turns.{place-loses, place-wins, place-not, placed-all, ask-wins, ask-more, release-wins, release-more, release-not, neither}
 use borrow.Fn.Kinds.{In}

@@ -1,10 +1,9 @@
 use borrow.Author.Needs.{needs}
 use Rattle.game.proofs.Answer.{refused, may-play, answered}
-use Rattle.game.proofs.asker_wins.Statement.{statement}
-use Rattle.game.proofs.asker_wins.Tie as tie
+use Rattle.game.proofs.asker_wins as f
 
-asker-requires : tie.Need-asker-requires
+asker-requires : f.Tie.Need-asker-requires
 asker-requires c κs = may-play _ _ _ _ (c .before .bad-game .ensures) (c .if1 .left)
 
-pub asker-wins-spec : {M : Type 1} → statement M
-asker-wins-spec = tie.close (tie.spec (λ c κs. search needs) (λ c. search refused) asker-requires (λ c. search needs) (λ c. search answered))
+pub asker-wins-spec : {M : Type 1} → f.Statement.statement M
+asker-wins-spec = f.Tie.close (f.Tie.spec (λ c κs. search needs) (λ c. search refused) asker-requires (λ c. search needs) (λ c. search answered))

@@ -1,12 +1,7 @@
 -- The cycle of calls {list_from}: the calls left fall.
-use Prim.Native.Nat.{ℕ, _+_, _-_, _≤_, _<_}
-use mathlib.Core.Logic.{⊎-elim}
-use mathlib.Core.Path.{_≡_, refl, sym, subst, _∙_}
-use native.Mathlib.Nat.{pos-of-ne-zero}
-use native.Mathlib.Omega.{arith}
+use Rattle.facts.proofs.Prelude.{ℕ, _+_, _-_, _≤_, _<_, arith, pos-of-ne-zero, ⊎-elim, _≡_, refl, sym, subst, _∙_, length}
 use borrow.Fn.Kinds.{In}
 use borrow.Fn.PlainCycle.{Measures, is, falls, and}
-use lib.ListN.{length}
 use Rattle.listing.specs.Listing.{gather, listFrom, Wrote}
 use Rattle.listing.proofs.Gather.{Ahead, none-yet, same-length, next-fits, next, no-more}
 use Rattle.listing.proofs.Turns.{none-left, turnOf, turn, may-go-on, went-on, stayed}

@@ -1,9 +1,6 @@
 -- Past the end, `set` changes nothing.
-use mathlib.Core.Path.{sym}
-use lib.Seq.{set-out}
-use borrow.Author.Needs.{needs}
-use Rattle.listing.proofs.write.Statement.{statement}
-use Rattle.listing.proofs.write.Tie as tie
+use Rattle.facts.proofs.Prelude.{sym, set-out, needs}
+use Rattle.listing.proofs.write as f
 
-pub write-spec : {M : Type 1} → statement M
-write-spec = tie.close (tie.spec (λ c. search needs) (λ c. search needs) (λ c. search needs) (λ c. search needs) (λ c. sym (set-out _ _ _ (c .if1 .left))))
+pub write-spec : {M : Type 1} → f.Statement.statement M
+write-spec = f.Tie.close (f.Tie.spec (λ c. search needs) (λ c. search needs) (λ c. search needs) (λ c. search needs) (λ c. sym (set-out _ _ _ (c .if1 .left))))

@@ -1,31 +1,25 @@
-use Prim.Native.Nat.{_+_, _-_, _≤_}
-use mathlib.Core.Path.{_≡_, refl, _∙_}
-use native.Mathlib.Nat.{sub-zero}
-use native.Mathlib.Omega.{arith}
-use borrow.Author.Needs.{needs}
-use lib.ListN.{length}
+use Rattle.facts.proofs.Prelude.{_+_, _-_, _≤_, arith, sub-zero, _≡_, refl, _∙_, length, needs}
 use Rattle.listing.specs.Listing.{numberAt, gather, soFar, Wrote}
 use Rattle.listing.proofs.Gather.{Ahead, none-yet, same-length, next, no-more}
-use Rattle.listing.proofs.write_history.Statement.{statement}
-use Rattle.listing.proofs.write_history.Tie as tie
+use Rattle.listing.proofs.write_history as f
 
-abbrev Inv-loop : tie.InvT-loop
+abbrev Inv-loop : f.Tie.InvT-loop
 Inv-loop out₀ at numbers calls i₀ out i =
     (i ≤ calls) × ((length out ≡ length out₀) × Ahead (gather (numberAt numbers) 0 calls) (gather (numberAt numbers) i (calls - i)) at (at + i) out₀ out)
 
-abbrev μ-loop : tie.MeasureT-loop
+abbrev μ-loop : f.Tie.MeasureT-loop
 μ-loop out₀ at numbers calls i₀ out i = calls - i
 
-loop-holds : tie.Need-loop-holds Inv-loop μ-loop
+loop-holds : f.Tie.Need-loop-holds Inv-loop μ-loop
 loop-holds c = (omega arith, (refl, none-yet _ _ _ _ _ (rw sub-zero refl) (omega arith)))
 
-add-write : tie.Need-add-write Inv-loop μ-loop
+add-write : f.Tie.Need-add-write Inv-loop μ-loop
 unfolding soFar
 add-write c =
     let start = c .before .before .before .before .before in
     omega (arith, start .pre .1, c .before .before .loop .inv .1 .1 .ends)
 
-loop-again : tie.Need-loop-again Inv-loop μ-loop
+loop-again : f.Tie.Need-loop-again Inv-loop μ-loop
 loop-again c =
     let at = c .before .before .before .before .before in
     let args = at .before .before .before .args in
@@ -35,23 +29,23 @@ loop-again c =
       (same-length _ _ _ _ _ wrote ∙ at .loop .inv .1 .0, next (numberAt (args .node .numbers)) (at .loop .i) (args .node .calls) _ _ _ _ _ (at .loop .inv .1 .1) (c .before .before .before .before .loop-test .taken) _ _ wrote),
     )
 
-add-result : tie.Need-add-result Inv-loop μ-loop
+add-result : f.Tie.Need-add-result Inv-loop μ-loop
 unfolding soFar
 add-result c =
     let start = c .before .before .before .before in
     omega (arith, start .pre .1, c .before .loop .inv .1 .1 .ends)
 
-returns : tie.Need-returns Inv-loop μ-loop
+returns : f.Tie.Need-returns Inv-loop μ-loop
 unfolding soFar
 returns c =
     let at = c .before in
     let args = at .before .before .before .args in
     no-more (numberAt (args .node .numbers)) (at .loop .i) (args .node .calls) _ _ _ _ _ (at .loop .inv .1 .1) (c .loop-test .left)
 
-pub write-history-spec : {M : Type 1} → statement M
+pub write-history-spec : {M : Type 1} → f.Statement.statement M
 write-history-spec =
-    tie.close
-    (tie.spec
+    f.Tie.close
+    (f.Tie.spec
     Inv-loop
     μ-loop
     loop-holds

@@ -8,10 +8,9 @@ use Rattle.classes.proofs.NearFit.{medium-bytes}
 use Rattle.classes.proofs.Shapes.{some-bytes, most-bytes}
 use Rattle.mediumlist.specs.Line.{lineOf}
 use borrow.Author.Needs.{needs}
-use Rattle.mediumlist.proofs.describe.Statement.{statement}
-use Rattle.mediumlist.proofs.describe.Tie as tie
+use Rattle.mediumlist.proofs.describe as f
 
-returns : tie.Need-returns
+returns : f.Tie.Need-returns
 unfolding lineOf
 returns c =
     let b = c .before .before in
@@ -20,8 +19,8 @@ returns c =
     let e = b .block-bytes .ensures ∙ medium-bytes (64 + k) (omega arith) ∙ ap (λ z. getD mediumSizes z 65472) i in
     rw (c .medium-capacity-for .ensures, c .before .span-pages-for .ensures, e)
 
-pub describe-spec : {M : Type 1} → statement M
+pub describe-spec : {M : Type 1} → f.Statement.statement M
 describe-spec =
-    tie.close
-    (tie.spec
+    f.Tie.close
+    (f.Tie.spec
     (λ c. search needs) (λ c κs. search needs) (λ c κs. search most-bytes) (λ c κs. (omega (arith, some-bytes _ _ (c .before .block-bytes .ensures)), search most-bytes)) returns)

@@ -1,9 +1,8 @@
 use Rattle.replay.proofs.Zeros.{zeros}
-use Rattle.replay.proofs.book.Statement.{statement}
-use Rattle.replay.proofs.book.Tie as tie
+use Rattle.replay.proofs.book as f
 
-returns : tie.Need-returns
+returns : f.Tie.Need-returns
 returns c = zeros 1158464
 
-pub book-spec : {M : Type 1} → statement M
-book-spec = tie.close (tie.spec returns)
+pub book-spec : {M : Type 1} → f.Statement.statement M
+book-spec = f.Tie.close (f.Tie.spec returns)

@@ -1,9 +1,8 @@
 use Rattle.replay.proofs.Zeros.{zeros}
-use Rattle.replay.proofs.room.Statement.{statement}
-use Rattle.replay.proofs.room.Tie as tie
+use Rattle.replay.proofs.room as f
 
-returns : tie.Need-returns
+returns : f.Tie.Need-returns
 returns c = zeros 524288
 
-pub room-spec : {M : Type 1} → statement M
-room-spec = tie.close (tie.spec returns)
+pub room-spec : {M : Type 1} → f.Statement.statement M
+room-spec = f.Tie.close (f.Tie.spec returns)

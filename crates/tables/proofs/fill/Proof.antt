@@ -1,25 +1,17 @@
 -- What is written, and the sizes still to come, are the table.
-use Prim.Native.Nat.{_≤_, _-_}
-use mathlib.Core.Path.{_≡_, refl, _∙_}
-use mathlib.Core.List.{_++_}
-use native.Mathlib.Omega.{arith}
-use borrow.Author.Needs.{needs}
-use native.Mathlib.Nat.{sub-zero}
-use lib.ListN.{length, take, drop, length-set}
-use lib.Seq.{drop-set-lt}
+use Rattle.facts.proofs.Prelude.{_≤_, _-_, arith, sub-zero, _++_, _≡_, refl, _∙_, length, take, drop, length-set, drop-set-lt, needs}
 use Rattle.tables.specs.Table.{sizesFrom, table}
 use Rattle.tables.proofs.Sizes.{fill-step, fill-done}
-use Rattle.tables.proofs.fill.Statement.{statement}
-use Rattle.tables.proofs.fill.Tie as tie
+use Rattle.tables.proofs.fill as f
 
-abbrev Inv-loop : tie.InvT-loop
+abbrev Inv-loop : f.Tie.InvT-loop
 Inv-loop a b top slots list₀ size₀ i₀ list size i =
     (size ≤ top) × ((i ≤ slots) × ((length list ≡ length list₀) × ((take i list ++ sizesFrom a b top size (slots - i) ≡ table a b top slots) × (drop slots list ≡ drop slots list₀))))
 
-abbrev μ-loop : tie.MeasureT-loop
+abbrev μ-loop : f.Tie.MeasureT-loop
 μ-loop a b top slots list₀ size₀ i₀ list size i = slots - i
 
-loop-again : tie.Need-loop-again Inv-loop μ-loop
+loop-again : f.Tie.Need-loop-again Inv-loop μ-loop
 loop-again c =
     let at = c .before .before in
     let args = at .before .before .args in
@@ -38,15 +30,15 @@ loop-again c =
       ),
     )
 
-returns : tie.Need-returns Inv-loop μ-loop
+returns : f.Tie.Need-returns Inv-loop μ-loop
 returns c =
     let args = c .before .before .before .args in
     fill-done (args .a) (args .b) (args .top) (c .before .loop .size) (args .slots) (c .before .loop .i) (c .before .loop .list) (args .list .now) (table (args .a) (args .b) (args .top) (args .slots)) (omega arith) (c .before .loop .inv .1 .1 .1 .0) (c .before .loop .inv .1 .1 .1 .1)
 
-pub fill-spec : {M : Type 1} → statement M
+pub fill-spec : {M : Type 1} → f.Statement.statement M
 fill-spec =
-    tie.close
-    (tie.spec
+    f.Tie.close
+    (f.Tie.spec
     Inv-loop
     μ-loop
     (λ c. (omega arith, (omega arith, (refl, (rw sub-zero refl, refl)))))

@@ -1,10 +1,9 @@
 use Rattle.chunks.proofs.CountSteps.{blocks-counted, page-missing}
 use borrow.Author.Needs.{needs}
-use Rattle.chunks.proofs.counts.tallies_agree.Statement.{statement}
-use Rattle.chunks.proofs.counts.tallies_agree.Tie as tie
+use Rattle.chunks.proofs.counts.tallies_agree as f
 
-pub tallies-agree-spec : {M : Type 1} → statement M
+pub tallies-agree-spec : {M : Type 1} → f.Statement.statement M
 tallies-agree-spec =
-    tie.close
-    (tie.spec
+    f.Tie.close
+    (f.Tie.spec
     (λ c κs. search needs) (λ c κs. search needs) (λ c. search needs) (λ c. search blocks-counted) (λ c. search needs) (λ c. search page-missing))

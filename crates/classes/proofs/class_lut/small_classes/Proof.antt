@@ -2,12 +2,11 @@
 use mathlib.Core.Path.{refl}
 use Rattle.classes.specs.Sizes.{smallSizes}
 use Rattle.classes.specs.Lookup.{firstFit, classForSize, obeys}
-use Rattle.classes.proofs.class_lut.small_classes.Statement.{statement}
-use Rattle.classes.proofs.class_lut.small_classes.Tie as tie
+use Rattle.classes.proofs.class_lut.small_classes as f
 
-returns : tie.Need-returns
+returns : f.Tie.Need-returns
 unfolding smallSizes firstFit classForSize obeys
 returns c = record { long = refl; every = refl }
 
-pub small-classes-spec : {M : Type 1} → statement M
-small-classes-spec = tie.close (tie.spec returns)
+pub small-classes-spec : {M : Type 1} → f.Statement.statement M
+small-classes-spec = f.Tie.close (f.Tie.spec returns)

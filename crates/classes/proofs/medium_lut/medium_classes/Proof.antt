@@ -2,12 +2,11 @@
 use mathlib.Core.Path.{refl}
 use Rattle.classes.specs.Sizes.{mediumSizes}
 use Rattle.classes.specs.Lookup.{firstFit, mediumClassForSize, obeys}
-use Rattle.classes.proofs.medium_lut.medium_classes.Statement.{statement}
-use Rattle.classes.proofs.medium_lut.medium_classes.Tie as tie
+use Rattle.classes.proofs.medium_lut.medium_classes as f
 
-returns : tie.Need-returns
+returns : f.Tie.Need-returns
 unfolding mediumSizes firstFit mediumClassForSize obeys
 returns c = record { long = refl; every = refl }
 
-pub medium-classes-spec : {M : Type 1} → statement M
-medium-classes-spec = tie.close (tie.spec returns)
+pub medium-classes-spec : {M : Type 1} → f.Statement.statement M
+medium-classes-spec = f.Tie.close (f.Tie.spec returns)

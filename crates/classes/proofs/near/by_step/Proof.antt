@@ -1,17 +1,15 @@
 -- Each arm by computing; the last is the one key left.
-use mathlib.Core.Path.{_≡_}
-use native.Mathlib.Omega.{arith}
+use Rattle.facts.proofs.Prelude.{arith, _≡_}
 use Rattle.classes.specs.Sizes.{smallSizes, mediumSizes}
 use Rattle.classes.specs.way.Near.{near, entered}
 use Rattle.classes.proofs.Match.{past}
-use Rattle.classes.proofs.near.by_step.Statement.{statement}
-use Rattle.classes.proofs.near.by_step.Tie as tie
+use Rattle.classes.proofs.near.by_step as f
 
-pub by-step-spec : {M : Type 1} → statement M
+pub by-step-spec : {M : Type 1} → f.Statement.statement M
 unfolding smallSizes mediumSizes near entered
 by-step-spec =
-    tie.close
-    (tie.spec
+    f.Tie.close
+    (f.Tie.spec
     (λ c. rw (c .match .keys1)) (λ c. rw (c .match .keys2)) (λ c. rw (c .match .keys3)) (λ c. rw (c .match .keys4)) (λ c. rw (c .match .keys5)) (λ c. rw (c .match .keys6))
     (λ c. rw (c .match .keys7)) (λ c. rw (c .match .keys8)) (λ c. rw (c .match .keys9)) (λ c. rw (c .match .keys10)) (λ c. rw (c .match .keys11)) (λ c. rw (c .match .keys12))
     (λ c. rw (c .match .keys13)) (λ c. rw (c .match .keys14)) (λ c. rw (c .match .keys15)) (λ c. rw (c .match .keys16)) (λ c. rw (c .match .keys17)) (λ c. rw (c .match .keys18))

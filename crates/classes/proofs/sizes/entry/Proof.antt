@@ -1,24 +1,19 @@
 -- Each arm by computing; past the keys it is the last entry.
-use native.Mathlib.Omega.{arith}
-use mathlib.Core.Path.{_≡_}
-use Prim.Native.Nat.{_-_, _≤_, min}
-use borrow.Author.Tests.{le-ltb}
+use Rattle.facts.proofs.Prelude.{_-_, _≤_, min, arith, _≡_, needs, le-ltb}
 use Rattle.classes.proofs.Match.{past}
-use borrow.Author.Needs.{needs}
-use Rattle.classes.proofs.sizes.entry.Statement.{statement}
-use Rattle.classes.proofs.sizes.entry.Tie as tie
+use Rattle.classes.proofs.sizes.entry as f
 
-last : tie.Need-returns-76
+last : f.Tie.Need-returns-76
 last c =
     let id = c .before .before .args .id in
     let h : 75 ≤ id = past id 75 (c .before .match .rest) in
     let e : min (id - 64) 11 ≡ 11 = omega arith in
     rw (le-ltb id 64 (omega arith), e)
 
-pub entry-spec : {M : Type 1} → statement M
+pub entry-spec : {M : Type 1} → f.Statement.statement M
 entry-spec =
-    tie.close
-    (tie.spec
+    f.Tie.close
+    (f.Tie.spec
     (λ c. search needs) (λ c. search needs) (λ c. search needs) (λ c. search needs) (λ c. search needs) (λ c. search needs) (λ c. search needs) (λ c. search needs)
     (λ c. search needs) (λ c. search needs) (λ c. search needs) (λ c. search needs) (λ c. search needs) (λ c. search needs) (λ c. search needs) (λ c. search needs)
     (λ c. search needs) (λ c. search needs) (λ c. search needs) (λ c. search needs) (λ c. search needs) (λ c. search needs) (λ c. search needs) (λ c. search needs)

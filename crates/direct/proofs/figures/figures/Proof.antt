@@ -1,11 +1,10 @@
 use borrow.Author.Needs.{needs}
-use Rattle.direct.proofs.figures.figures.Statement.{statement}
-use Rattle.direct.proofs.figures.figures.Tie as tie
+use Rattle.direct.proofs.figures.figures as f
 use Rattle.direct.proofs.FigureSteps.{counts-in, figures-below, figures-are}
 
-pub figures-spec : {M : Type 1} → statement M
+pub figures-spec : {M : Type 1} → f.Statement.statement M
 figures-spec =
-    tie.close
-    (tie.spec
+    f.Tie.close
+    (f.Tie.spec
     (λ c κs. search needs) (λ c κs. search counts-in) (λ c. search needs) (λ c κs. search needs) (λ c. search needs) (λ c. search needs)
     (λ c. search figures-below) (λ c. search needs) (λ c. search needs) (λ c. search needs) (λ c. search figures-are))

@@ -1,10 +1,9 @@
 use borrow.Author.Needs.{needs}
 use Rattle.fields.specs.Field.{get}
-use Rattle.fields.proofs.arena.abandoned.Statement.{statement}
-use Rattle.fields.proofs.arena.abandoned.Tie as tie
+use Rattle.fields.proofs.arena.abandoned as f
 
-pub abandoned-spec : {M : Type 1} → statement M
+pub abandoned-spec : {M : Type 1} → f.Statement.statement M
 unfolding get
 abandoned-spec =
-    tie.close
-    (tie.spec (λ c. search needs) (λ c. search needs) (λ c κs. search needs) (λ c. c .wide .ensures))
+    f.Tie.close
+    (f.Tie.spec (λ c. search needs) (λ c. search needs) (λ c κs. search needs) (λ c. c .wide .ensures))

@@ -1,11 +1,9 @@
-use borrow.Author.Needs.{needs}
-use native.Mathlib.Omega.{arith}
+use Rattle.facts.proofs.Prelude.{arith, needs}
 use Rattle.fields.proofs.OutBits.{ones-set}
-use Rattle.fields.proofs.bits.set_ones.Statement.{statement}
-use Rattle.fields.proofs.bits.set_ones.Tie as tie
+use Rattle.fields.proofs.bits.set_ones as f
 
-returns : tie.Need-returns
+returns : f.Tie.Need-returns
 returns c = ones-set _ _ _ _ (c .ones .ensures) (omega arith)
 
-pub set-ones-spec : {M : Type 1} → statement M
-set-ones-spec = tie.close (tie.spec (λ c κs. search needs) (λ c. search needs) returns)
+pub set-ones-spec : {M : Type 1} → f.Statement.statement M
+set-ones-spec = f.Tie.close (f.Tie.spec (λ c κs. search needs) (λ c. search needs) returns)

@@ -1,10 +1,9 @@
 use borrow.Author.Needs.{needs}
 use Rattle.fields.specs.Field.{get}
-use Rattle.fields.proofs.hole.pages.Statement.{statement}
-use Rattle.fields.proofs.hole.pages.Tie as tie
+use Rattle.fields.proofs.hole.pages as f
 
-pub pages-spec : {M : Type 1} → statement M
+pub pages-spec : {M : Type 1} → f.Statement.statement M
 unfolding get
 pages-spec =
-    tie.close
-    (tie.spec (λ c κs. search needs) (λ c. search needs) (λ c. search needs) (λ c. rw (c .before .hole-word .ensures)))
+    f.Tie.close
+    (f.Tie.spec (λ c κs. search needs) (λ c. search needs) (λ c. search needs) (λ c. rw (c .before .hole-word .ensures)))

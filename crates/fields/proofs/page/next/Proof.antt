@@ -1,10 +1,9 @@
 use borrow.Author.Needs.{needs}
 use Rattle.fields.specs.Field.{get}
-use Rattle.fields.proofs.page.next.Statement.{statement}
-use Rattle.fields.proofs.page.next.Tie as tie
+use Rattle.fields.proofs.page.next as f
 
-pub next-spec : {M : Type 1} → statement M
+pub next-spec : {M : Type 1} → f.Statement.statement M
 unfolding get
 next-spec =
-    tie.close
-    (tie.spec (λ c κs. search needs) (λ c. search needs) (λ c. search needs) (λ c. rw (c .before .page-word .ensures)))
+    f.Tie.close
+    (f.Tie.spec (λ c κs. search needs) (λ c. search needs) (λ c. search needs) (λ c. rw (c .before .page-word .ensures)))

@@ -1,10 +1,9 @@
 use borrow.Author.Needs.{needs}
 use Rattle.fields.specs.Field.{put}
-use Rattle.fields.proofs.page.set_free.Statement.{statement}
-use Rattle.fields.proofs.page.set_free.Tie as tie
+use Rattle.fields.proofs.page.set_free as f
 
-pub set-free-spec : {M : Type 1} → statement M
+pub set-free-spec : {M : Type 1} → f.Statement.statement M
 unfolding put
 set-free-spec =
-    tie.close
-    (tie.spec (λ c κs. search needs) (λ c. search needs) (λ c. search needs) (λ c. search needs) (λ c. rw (c .page-word .ensures)))
+    f.Tie.close
+    (f.Tie.spec (λ c κs. search needs) (λ c. search needs) (λ c. search needs) (λ c. search needs) (λ c. rw (c .page-word .ensures)))

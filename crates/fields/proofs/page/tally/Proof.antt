@@ -1,10 +1,9 @@
 use borrow.Author.Needs.{needs}
 use Rattle.fields.specs.Field.{get}
-use Rattle.fields.proofs.page.tally.Statement.{statement}
-use Rattle.fields.proofs.page.tally.Tie as tie
+use Rattle.fields.proofs.page.tally as f
 
-pub tally-spec : {M : Type 1} → statement M
+pub tally-spec : {M : Type 1} → f.Statement.statement M
 unfolding get
 tally-spec =
-    tie.close
-    (tie.spec (λ c κs. search needs) (λ c. search needs) (λ c. search needs) (λ c. rw (c .before .page-word .ensures)))
+    f.Tie.close
+    (f.Tie.spec (λ c κs. search needs) (λ c. search needs) (λ c. search needs) (λ c. rw (c .before .page-word .ensures)))

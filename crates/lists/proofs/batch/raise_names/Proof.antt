@@ -1,19 +1,17 @@
-use Prim.Native.Nat.{_-_}
+use Rattle.facts.proofs.Prelude.{_-_, needs}
 use Rattle.lists.proofs.BatchSteps.{Raising, raising-none, raising-more, raising-done}
-use borrow.Author.Needs.{needs}
-use Rattle.lists.proofs.batch.raise_names.Statement.{statement}
-use Rattle.lists.proofs.batch.raise_names.Tie as tie
+use Rattle.lists.proofs.batch.raise_names as f
 
-abbrev Inv-loop : tie.InvT-loop
+abbrev Inv-loop : f.Tie.InvT-loop
 Inv-loop shape q list₀ at from k j₀ list j = Raising shape q list₀ at from k list j
 
-abbrev μ-loop : tie.MeasureT-loop
+abbrev μ-loop : f.Tie.MeasureT-loop
 μ-loop shape q list₀ at from k j₀ list j = k - j
 
-pub raise-names-spec : {M : Type 1} → statement M
+pub raise-names-spec : {M : Type 1} → f.Statement.statement M
 raise-names-spec =
-    tie.close
-    (tie.spec
+    f.Tie.close
+    (f.Tie.spec
     Inv-loop
     μ-loop
     (λ c. search raising-none)

@@ -1,7 +1,6 @@
 use Rattle.lists.proofs.CarveSteps.{new-done}
 use borrow.Author.Needs.{needs}
-use Rattle.lists.proofs.carve.new_run.Statement.{statement}
-use Rattle.lists.proofs.carve.new_run.Tie as tie
+use Rattle.lists.proofs.carve.new_run as f
 
-pub new-run-spec : {M : Type 1} → statement M
-new-run-spec = tie.close (tie.spec (λ c κs. search needs) (λ c. search needs) (λ c κs. search needs) (λ c κs. search needs) (λ c κs. search needs) (λ c. search needs) (λ c. search new-done))
+pub new-run-spec : {M : Type 1} → f.Statement.statement M
+new-run-spec = f.Tie.close (f.Tie.spec (λ c κs. search needs) (λ c. search needs) (λ c κs. search needs) (λ c κs. search needs) (λ c κs. search needs) (λ c. search needs) (λ c. search new-done))

@@ -1,19 +1,17 @@
 use Rattle.lists.proofs.CarveSteps.{PushRangeInv, push-range-pair, push-range-last, push-range-all}
-use Prim.Native.Nat.{_-_, _*_}
-use borrow.Author.Needs.{needs}
-use Rattle.lists.proofs.carve.push_range.Statement.{statement}
-use Rattle.lists.proofs.carve.push_range.Tie as tie
+use Rattle.facts.proofs.Prelude.{_-_, _*_, needs}
+use Rattle.lists.proofs.carve.push_range as f
 
-abbrev Inv-loop : tie.InvT-loop
+abbrev Inv-loop : f.Tie.InvT-loop
 Inv-loop meta₀ q k x₀ meta x = PushRangeInv meta₀ q k meta (2 * x)
 
-abbrev μ-loop : tie.MeasureT-loop
+abbrev μ-loop : f.Tie.MeasureT-loop
 μ-loop meta₀ q k x₀ meta x = k - x
 
-pub push-range-spec : {M : Type 1} → statement M
+pub push-range-spec : {M : Type 1} → f.Statement.statement M
 push-range-spec =
-    tie.close
-    (tie.spec
+    f.Tie.close
+    (f.Tie.spec
     Inv-loop
     μ-loop
     (λ c. search needs)

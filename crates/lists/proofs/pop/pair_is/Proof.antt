@@ -1,10 +1,9 @@
 use borrow.Author.Needs.{needs}
 use Rattle.lists.proofs.StretchSteps.{pair-told}
-use Rattle.lists.proofs.pop.pair_is.Statement.{statement}
-use Rattle.lists.proofs.pop.pair_is.Tie as tie
+use Rattle.lists.proofs.pop.pair_is as f
 
-pub pair-is-spec : {M : Type 1} → statement M
+pub pair-is-spec : {M : Type 1} → f.Statement.statement M
 pair-is-spec =
-    tie.close
-    (tie.spec
+    f.Tie.close
+    (f.Tie.spec
     (λ c. search needs) (λ c κs. search needs) (λ c. search needs) (λ c. search needs) (λ c κs. search needs) (λ c. search pair-told))

@@ -1,12 +1,11 @@
 use Rattle.lists.proofs.PopSteps.{end-pre, end-one, end-none}
 use borrow.Author.Needs.{needs}
-use Rattle.lists.proofs.pop.pop_end.Statement.{statement}
-use Rattle.lists.proofs.pop.pop_end.Tie as tie
+use Rattle.lists.proofs.pop.pop_end as f
 
-pub pop-end-spec : {M : Type 1} → statement M
+pub pop-end-spec : {M : Type 1} → f.Statement.statement M
 pop-end-spec =
-    tie.close
-    (tie.spec
+    f.Tie.close
+    (f.Tie.spec
     (λ c. search needs)
     (λ c κs. search needs)
     (λ c κs. search end-pre)

@@ -1,19 +1,17 @@
-use Prim.Native.Nat.{_-_}
+use Rattle.facts.proofs.Prelude.{_-_, needs}
 use Rattle.lists.proofs.PopSteps.{Pairs, pairs-none, pairs-pre, pairs-more, pairs-done}
-use borrow.Author.Needs.{needs}
-use Rattle.lists.proofs.pop.pop_mixed.Statement.{statement}
-use Rattle.lists.proofs.pop.pop_mixed.Tie as tie
+use Rattle.lists.proofs.pop.pop_mixed as f
 
-abbrev Inv-loop : tie.InvT-loop
+abbrev Inv-loop : f.Tie.InvT-loop
 Inv-loop meta₀ shape q list₀ at x k j₀ meta list j = Pairs meta₀ shape q list₀ at x k meta list j
 
-abbrev μ-loop : tie.MeasureT-loop
+abbrev μ-loop : f.Tie.MeasureT-loop
 μ-loop meta₀ shape q list₀ at x k j₀ meta list j = k - j
 
-pub pop-mixed-spec : {M : Type 1} → statement M
+pub pop-mixed-spec : {M : Type 1} → f.Statement.statement M
 pop-mixed-spec =
-    tie.close
-    (tie.spec
+    f.Tie.close
+    (f.Tie.spec
     Inv-loop
     μ-loop
     (λ c. search pairs-none)

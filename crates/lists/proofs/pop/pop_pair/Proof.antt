@@ -1,12 +1,11 @@
 use Rattle.lists.proofs.PopSteps.{high-pre, low-pre, pair-done}
 use borrow.Author.Needs.{needs}
-use Rattle.lists.proofs.pop.pop_pair.Statement.{statement}
-use Rattle.lists.proofs.pop.pop_pair.Tie as tie
+use Rattle.lists.proofs.pop.pop_pair as f
 
-pub pop-pair-spec : {M : Type 1} → statement M
+pub pop-pair-spec : {M : Type 1} → f.Statement.statement M
 pop-pair-spec =
-    tie.close
-    (tie.spec
+    f.Tie.close
+    (f.Tie.spec
     (λ c. search needs)
     (λ c. search needs)
     (λ c κs. search needs)

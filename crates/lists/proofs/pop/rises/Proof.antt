@@ -1,19 +1,17 @@
-use Prim.Native.Nat.{_-_}
-use borrow.Author.Needs.{needs}
+use Rattle.facts.proofs.Prelude.{_-_, needs}
 use Rattle.lists.proofs.StretchSteps.{Rising, rising-none, rising-more, rising-done}
-use Rattle.lists.proofs.pop.rises.Statement.{statement}
-use Rattle.lists.proofs.pop.rises.Tie as tie
+use Rattle.lists.proofs.pop.rises as f
 
-abbrev Inv-loop : tie.InvT-loop
+abbrev Inv-loop : f.Tie.InvT-loop
 Inv-loop meta q x y a so₀ z₀ i₀ so z i = Rising meta q x y a so z i
 
-abbrev μ-loop : tie.MeasureT-loop
+abbrev μ-loop : f.Tie.MeasureT-loop
 μ-loop meta q x y a so₀ z₀ i₀ so z i = y - z
 
-pub rises-spec : {M : Type 1} → statement M
+pub rises-spec : {M : Type 1} → f.Statement.statement M
 rises-spec =
-    tie.close
-    (tie.spec
+    f.Tie.close
+    (f.Tie.spec
     Inv-loop
     μ-loop
     (λ c. search rising-none)

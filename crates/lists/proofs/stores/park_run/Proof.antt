@@ -1,7 +1,6 @@
 use Rattle.lists.proofs.ListSteps.{park-run-done}
 use borrow.Author.Needs.{needs}
-use Rattle.lists.proofs.stores.park_run.Statement.{statement}
-use Rattle.lists.proofs.stores.park_run.Tie as tie
+use Rattle.lists.proofs.stores.park_run as f
 
-pub park-run-spec : {M : Type 1} → statement M
-park-run-spec = tie.close (tie.spec (λ c κs. search needs) (λ c κs. search needs) (λ c κs. search needs) (λ c. search needs) (λ c κs. search needs) (λ c. search needs) (λ c κs. search needs) (λ c. search needs) (λ c. search park-run-done))
+pub park-run-spec : {M : Type 1} → f.Statement.statement M
+park-run-spec = f.Tie.close (f.Tie.spec (λ c κs. search needs) (λ c κs. search needs) (λ c κs. search needs) (λ c. search needs) (λ c κs. search needs) (λ c. search needs) (λ c κs. search needs) (λ c. search needs) (λ c. search park-run-done))

@@ -1,10 +1,9 @@
 use Rattle.lists.proofs.ValidSteps.{over-capacity, over-carved, too-many, header-told}
 use borrow.Author.Needs.{needs}
-use Rattle.lists.proofs.valid.header_valid.Statement.{statement}
-use Rattle.lists.proofs.valid.header_valid.Tie as tie
+use Rattle.lists.proofs.valid.header_valid as f
 
-pub header-valid-spec : {M : Type 1} → statement M
+pub header-valid-spec : {M : Type 1} → f.Statement.statement M
 header-valid-spec =
-    tie.close
-    (tie.spec
+    f.Tie.close
+    (f.Tie.spec
     (λ c κs. search needs) (λ c. search over-capacity) (λ c κs. search needs) (λ c. search over-carved) (λ c. search needs) (λ c. search too-many) (λ c κs. search needs) (λ c. search header-told))

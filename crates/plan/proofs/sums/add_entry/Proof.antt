@@ -1,11 +1,10 @@
 use borrow.Author.Needs.{needs}
 use Rattle.plan.proofs.AddSteps.{added}
-use Rattle.plan.proofs.sums.add_entry.Statement.{statement}
-use Rattle.plan.proofs.sums.add_entry.Tie as tie
+use Rattle.plan.proofs.sums.add_entry as f
 
-pub add-entry-spec : {M : Type 1} → statement M
+pub add-entry-spec : {M : Type 1} → f.Statement.statement M
 add-entry-spec =
-    tie.close
-    (tie.spec
+    f.Tie.close
+    (f.Tie.spec
     (λ c. search needs) (λ c. search needs) (λ c. search needs) (λ c. search needs) (λ c. search needs)
     (λ c. search added))

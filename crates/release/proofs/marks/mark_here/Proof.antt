@@ -1,9 +1,8 @@
 use borrow.Author.Needs.{needs}
-use Rattle.release.proofs.marks.mark_here.Statement.{statement}
-use Rattle.release.proofs.marks.mark_here.Tie as tie
+use Rattle.release.proofs.marks.mark_here as f
 
-pub mark-here-spec : {M : Type 1} → statement M
+pub mark-here-spec : {M : Type 1} → f.Statement.statement M
 mark-here-spec =
-    tie.close
-    (tie.spec
+    f.Tie.close
+    (f.Tie.spec
     (λ c κs. search needs) (λ c. search needs) (λ c κs. search needs) (λ c. search needs) (λ c. search needs))

@@ -1,16 +1,15 @@
 use Rattle.release.proofs.ListSteps.{Taking, taking-none, taking-pre, taking-block, taking-bit, taking-more, taking-done}
 use borrow.Author.Needs.{needs}
-use Rattle.release.proofs.release.take_list.Statement.{statement}
-use Rattle.release.proofs.release.take_list.Tie as tie
+use Rattle.release.proofs.release.take_list as f
 
-abbrev Inv-loop : tie.InvT-loop
+abbrev Inv-loop : f.Tie.InvT-loop
 Inv-loop meta₀ shape q list i₀ meta i = Taking meta₀ shape q list meta i
 
-abbrev μ-loop : tie.MeasureT-loop
+abbrev μ-loop : f.Tie.MeasureT-loop
 μ-loop meta₀ shape q list i₀ meta i = i
 
-pub take-list-spec : {M : Type 1} → statement M
+pub take-list-spec : {M : Type 1} → f.Statement.statement M
 take-list-spec =
-    tie.close
-    (tie.spec
+    f.Tie.close
+    (f.Tie.spec
     Inv-loop μ-loop (λ c. search taking-none) (λ c. search needs) (λ c. search needs) (λ c. search needs) (λ c κs. (search taking-pre, search taking-block)) (λ c κs. search taking-bit) (λ c. search needs) (λ c. search taking-more) (λ c. search needs) (λ c. search taking-done))

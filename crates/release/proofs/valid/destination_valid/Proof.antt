@@ -1,12 +1,11 @@
 use Rattle.release.proofs.ValidSteps.{out-fits, not-last, kept-empty, kept-cold, give-last}
 use borrow.Author.Needs.{needs}
-use Rattle.release.proofs.valid.destination_valid.Statement.{statement}
-use Rattle.release.proofs.valid.destination_valid.Tie as tie
+use Rattle.release.proofs.valid.destination_valid as f
 
-pub destination-valid-spec : {M : Type 1} → statement M
+pub destination-valid-spec : {M : Type 1} → f.Statement.statement M
 destination-valid-spec =
-    tie.close
-    (tie.spec
+    f.Tie.close
+    (f.Tie.spec
     (λ c κs. search needs)
     (λ c κs. search needs)
     (λ c. search out-fits)

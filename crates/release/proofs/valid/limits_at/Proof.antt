@@ -1,7 +1,6 @@
 use Rattle.release.proofs.ValidSteps.{limits-there}
 use borrow.Author.Needs.{needs}
-use Rattle.release.proofs.valid.limits_at.Statement.{statement}
-use Rattle.release.proofs.valid.limits_at.Tie as tie
+use Rattle.release.proofs.valid.limits_at as f
 
-pub limits-at-spec : {M : Type 1} → statement M
-limits-at-spec = tie.close (tie.spec (λ c κs. search needs) (λ c κs. search needs) (λ c. search limits-there))
+pub limits-at-spec : {M : Type 1} → f.Statement.statement M
+limits-at-spec = f.Tie.close (f.Tie.spec (λ c κs. search needs) (λ c κs. search needs) (λ c. search limits-there))

@@ -1,7 +1,6 @@
 use Rattle.release.proofs.ValidSteps.{high-empty, limits-told}
 use borrow.Author.Needs.{needs}
-use Rattle.release.proofs.valid.limits_valid.Statement.{statement}
-use Rattle.release.proofs.valid.limits_valid.Tie as tie
+use Rattle.release.proofs.valid.limits_valid as f
 
-pub limits-valid-spec : {M : Type 1} → statement M
-limits-valid-spec = tie.close (tie.spec (λ c κs. search needs) (λ c. search high-empty) (λ c κs. search needs) (λ c. search limits-told))
+pub limits-valid-spec : {M : Type 1} → f.Statement.statement M
+limits-valid-spec = f.Tie.close (f.Tie.spec (λ c κs. search needs) (λ c. search high-empty) (λ c κs. search needs) (λ c. search limits-told))

@@ -1,10 +1,9 @@
 use borrow.Author.Needs.{needs}
-use Rattle.runs.proofs.act.end_none.Statement.{statement}
-use Rattle.runs.proofs.act.end_none.Tie as tie
+use Rattle.runs.proofs.act.end_none as f
 use Rattle.runs.proofs.ActSteps.{none-ends}
 
-pub end-none-spec : {M : Type 1} → statement M
+pub end-none-spec : {M : Type 1} → f.Statement.statement M
 end-none-spec =
-    tie.close
-    (tie.spec
+    f.Tie.close
+    (f.Tie.spec
     (λ c κs. search needs) (λ c. search needs) (λ c. search none-ends))

@@ -1,9 +1,8 @@
 use borrow.Author.Needs.{needs}
-use Rattle.runs.proofs.holes.code_if.Statement.{statement}
-use Rattle.runs.proofs.holes.code_if.Tie as tie
+use Rattle.runs.proofs.holes.code_if as f
 
-returns : tie.Need-returns
+returns : f.Tie.Need-returns
 returns c = simp (c .if1 .taken)
 
-pub code-if-spec : {M : Type 1} → statement M
-code-if-spec = tie.close (tie.spec (λ c. search needs) returns (λ c. search needs))
+pub code-if-spec : {M : Type 1} → f.Statement.statement M
+code-if-spec = f.Tie.close (f.Tie.spec (λ c. search needs) returns (λ c. search needs))

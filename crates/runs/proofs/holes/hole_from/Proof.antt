@@ -1,9 +1,8 @@
 use borrow.Author.Needs.{needs}
-use Rattle.runs.proofs.holes.hole_from.Statement.{statement}
-use Rattle.runs.proofs.holes.hole_from.Tie as tie
+use Rattle.runs.proofs.holes.hole_from as f
 
-returns : tie.Need-returns
+returns : f.Tie.Need-returns
 returns c = cc
 
-pub hole-from-spec : {M : Type 1} → statement M
-hole-from-spec = tie.close (tie.spec (λ c κs. search needs) (λ c κs. search needs) returns)
+pub hole-from-spec : {M : Type 1} → f.Statement.statement M
+hole-from-spec = f.Tie.close (f.Tie.spec (λ c κs. search needs) (λ c κs. search needs) returns)

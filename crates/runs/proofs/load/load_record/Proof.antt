@@ -1,13 +1,12 @@
 use borrow.Author.Needs.{needs}
-use Rattle.runs.proofs.load.load_record.Statement.{statement}
-use Rattle.runs.proofs.load.load_record.Tie as tie
+use Rattle.runs.proofs.load.load_record as f
 
-returns : tie.Need-returns
+returns : f.Tie.Need-returns
 returns c = cc
 
-pub load-record-spec : {M : Type 1} → statement M
+pub load-record-spec : {M : Type 1} → f.Statement.statement M
 load-record-spec =
-    tie.close
-    (tie.spec
+    f.Tie.close
+    (f.Tie.spec
     (λ c κs. search needs) (λ c κs. search needs) (λ c κs. search needs) (λ c κs. search needs) (λ c κs. search needs) (λ c κs. search needs)
     (λ c κs. search needs) returns)

@@ -1,10 +1,9 @@
 use borrow.Author.Needs.{needs}
 use Rattle.runs.proofs.Planning.{found-small, plans-none, plans-invalid, plans-found}
-use Rattle.runs.proofs.plans.plan.Statement.{statement}
-use Rattle.runs.proofs.plans.plan.Tie as tie
+use Rattle.runs.proofs.plans.plan as f
 
-pub plan-spec : {M : Type 1} → statement M
+pub plan-spec : {M : Type 1} → f.Statement.statement M
 plan-spec =
-    tie.close
-    (tie.spec
+    f.Tie.close
+    (f.Tie.spec
     (λ c. search plans-none) (λ c κs. search needs) (λ c. search plans-invalid) (λ c. search found-small) (λ c. search plans-found))

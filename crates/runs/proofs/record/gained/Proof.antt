@@ -1,9 +1,8 @@
 use borrow.Author.Needs.{needs}
-use Rattle.runs.proofs.record.gained.Statement.{statement}
-use Rattle.runs.proofs.record.gained.Tie as tie
+use Rattle.runs.proofs.record.gained as f
 
-returns : tie.Need-returns
+returns : f.Tie.Need-returns
 returns c = cc
 
-pub gained-spec : {M : Type 1} → statement M
-gained-spec = tie.close (tie.spec (λ c. search needs) (λ c κs. search needs) returns)
+pub gained-spec : {M : Type 1} → f.Statement.statement M
+gained-spec = f.Tie.close (f.Tie.spec (λ c. search needs) (λ c κs. search needs) returns)

@@ -1,9 +1,8 @@
 use borrow.Author.Needs.{needs}
-use Rattle.runs.proofs.record.more_if.Statement.{statement}
-use Rattle.runs.proofs.record.more_if.Tie as tie
+use Rattle.runs.proofs.record.more_if as f
 
-returns : tie.Need-returns
+returns : f.Tie.Need-returns
 returns c = simp (c .before .if1 .taken, c .one-more .ensures)
 
-pub more-if-spec : {M : Type 1} → statement M
-more-if-spec = tie.close (tie.spec (λ c κs. search needs) returns (λ c. search needs))
+pub more-if-spec : {M : Type 1} → f.Statement.statement M
+more-if-spec = f.Tie.close (f.Tie.spec (λ c κs. search needs) returns (λ c. search needs))

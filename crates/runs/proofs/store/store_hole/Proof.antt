@@ -1,9 +1,8 @@
 use borrow.Author.Needs.{needs}
-use Rattle.runs.proofs.store.store_hole.Statement.{statement}
-use Rattle.runs.proofs.store.store_hole.Tie as tie
+use Rattle.runs.proofs.store.store_hole as f
 
-returns : tie.Need-returns
+returns : f.Tie.Need-returns
 returns c = cc
 
-pub store-hole-spec : {M : Type 1} → statement M
-store-hole-spec = tie.close (tie.spec (λ c κs. search needs) (λ c κs. search needs) (λ c. search needs) returns)
+pub store-hole-spec : {M : Type 1} → f.Statement.statement M
+store-hole-spec = f.Tie.close (f.Tie.spec (λ c κs. search needs) (λ c κs. search needs) (λ c. search needs) returns)

@@ -1,12 +1,11 @@
 use Rattle.stock.proofs.FreeSteps.{far-other, far-away}
-use Rattle.stock.proofs.free.far_fault.Statement.{statement}
-use Rattle.stock.proofs.free.far_fault.Tie as tie
+use Rattle.stock.proofs.free.far_fault as f
 
-returns : tie.Need-returns
+returns : f.Tie.Need-returns
 returns c = search far-other
 
-returns-2 : tie.Need-returns-2
+returns-2 : f.Tie.Need-returns-2
 returns-2 c = search far-away
 
-pub far-fault-spec : {M : Type 1} → statement M
-far-fault-spec = tie.close (tie.spec returns returns-2)
+pub far-fault-spec : {M : Type 1} → f.Statement.statement M
+far-fault-spec = f.Tie.close (f.Tie.spec returns returns-2)

@@ -1,31 +1,30 @@
 use Rattle.stock.proofs.FreeSteps.{pre-call, word-low, keep-absent, keep-beyond, keep-low, keep-pushed}
 use borrow.Author.Needs.{needs}
-use Rattle.stock.proofs.free.keep.Statement.{statement}
-use Rattle.stock.proofs.free.keep.Tie as tie
+use Rattle.stock.proofs.free.keep as f
 
-is-out-requires : tie.Need-is-out-requires
+is-out-requires : f.Tie.Need-is-out-requires
 is-out-requires c κs = search (needs, pre-call, word-low)
 
-same-length : tie.Need-same-length
+same-length : f.Tie.Need-same-length
 same-length c = search needs
 
-returns : tie.Need-returns
+returns : f.Tie.Need-returns
 returns c = search keep-beyond
 
-push-requires : tie.Need-push-requires
+push-requires : f.Tie.Need-push-requires
 push-requires c κs = search (needs, keep-low)
 
-same-length-2 : tie.Need-same-length-2
+same-length-2 : f.Tie.Need-same-length-2
 same-length-2 c = search needs
 
-returns-2 : tie.Need-returns-2
+returns-2 : f.Tie.Need-returns-2
 returns-2 c = search keep-pushed
 
-same-length-3 : tie.Need-same-length-3
+same-length-3 : f.Tie.Need-same-length-3
 same-length-3 c = search needs
 
-returns-3 : tie.Need-returns-3
+returns-3 : f.Tie.Need-returns-3
 returns-3 c = search keep-absent
 
-pub keep-spec : {M : Type 1} → statement M
-keep-spec = tie.close (tie.spec is-out-requires same-length returns push-requires same-length-2 returns-2 same-length-3 returns-3)
+pub keep-spec : {M : Type 1} → f.Statement.statement M
+keep-spec = f.Tie.close (f.Tie.spec is-out-requires same-length returns push-requires same-length-2 returns-2 same-length-3 returns-3)

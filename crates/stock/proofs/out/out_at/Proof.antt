@@ -1,31 +1,30 @@
 use Rattle.stock.proofs.GiveSteps.{class-pre}
 use Rattle.stock.proofs.OutSteps.{out-nowhere, out-block}
 use borrow.Author.Needs.{needs}
-use Rattle.stock.proofs.out.out_at.Statement.{statement}
-use Rattle.stock.proofs.out.out_at.Tie as tie
+use Rattle.stock.proofs.out.out_at as f
 
-shape-of-requires : tie.Need-shape-of-requires
+shape-of-requires : f.Tie.Need-shape-of-requires
 shape-of-requires c κs = search needs
 
-find-out-requires : tie.Need-find-out-requires
+find-out-requires : f.Tie.Need-find-out-requires
 find-out-requires c κs = search class-pre
 
-enum-told : tie.Need-enum-told
+enum-told : f.Tie.Need-enum-told
 enum-told c = search needs
 
-enum-told-2 : tie.Need-enum-told-2
+enum-told-2 : f.Tie.Need-enum-told-2
 enum-told-2 c = search needs
 
-returns : tie.Need-returns
+returns : f.Tie.Need-returns
 returns c = search out-nowhere
 
-returns-2 : tie.Need-returns-2
+returns-2 : f.Tie.Need-returns-2
 returns-2 c = search out-block
 
-pub out-at-spec : {M : Type 1} → statement M
+pub out-at-spec : {M : Type 1} → f.Statement.statement M
 out-at-spec =
-    tie.close
-    (tie.spec
+    f.Tie.close
+    (f.Tie.spec
     shape-of-requires
     find-out-requires
     enum-told

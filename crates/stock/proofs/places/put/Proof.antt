@@ -1,18 +1,17 @@
 use borrow.Author.Needs.{needs}
-use Rattle.stock.proofs.places.put.Statement.{statement}
-use Rattle.stock.proofs.places.put.Tie as tie
+use Rattle.stock.proofs.places.put as f
 
-set-entry-requires : tie.Need-set-entry-requires
+set-entry-requires : f.Tie.Need-set-entry-requires
 set-entry-requires c κs = search needs
 
-set-place-requires : tie.Need-set-place-requires
+set-place-requires : f.Tie.Need-set-place-requires
 set-place-requires c κs = search needs
 
-same-length : tie.Need-same-length
+same-length : f.Tie.Need-same-length
 same-length c = search needs
 
-returns : tie.Need-returns
+returns : f.Tie.Need-returns
 returns c = cc
 
-pub put-spec : {M : Type 1} → statement M
-put-spec = tie.close (tie.spec set-entry-requires set-place-requires same-length returns)
+pub put-spec : {M : Type 1} → f.Statement.statement M
+put-spec = f.Tie.close (f.Tie.spec set-entry-requires set-place-requires same-length returns)

@@ -1,36 +1,35 @@
 use borrow.Author.Needs.{needs}
 use Rattle.stock.proofs.QuerySteps.{granted-far, near-pre, granted-stocked, granted-out}
-use Rattle.stock.proofs.query.granted.Statement.{statement}
-use Rattle.stock.proofs.query.granted.Tie as tie
+use Rattle.stock.proofs.query.granted as f
 
-behind-requires : tie.Need-behind-requires
+behind-requires : f.Tie.Need-behind-requires
 behind-requires c κs = search needs
 
-mul-if1 : tie.Need-mul-if1
+mul-if1 : f.Tie.Need-mul-if1
 mul-if1 c = search needs
 
-returns : tie.Need-returns
+returns : f.Tie.Need-returns
 returns c = search granted-far
 
-cast-is-stocked : tie.Need-cast-is-stocked
+cast-is-stocked : f.Tie.Need-cast-is-stocked
 cast-is-stocked c = search needs
 
-is-stocked-requires : tie.Need-is-stocked-requires
+is-stocked-requires : f.Tie.Need-is-stocked-requires
 is-stocked-requires c κs = search near-pre
 
-returns-2 : tie.Need-returns-2
+returns-2 : f.Tie.Need-returns-2
 returns-2 c = search granted-stocked
 
-out-at-requires : tie.Need-out-at-requires
+out-at-requires : f.Tie.Need-out-at-requires
 out-at-requires c κs = search needs
 
-returns-3 : tie.Need-returns-3
+returns-3 : f.Tie.Need-returns-3
 returns-3 c = search granted-out
 
-pub granted-spec : {M : Type 1} → statement M
+pub granted-spec : {M : Type 1} → f.Statement.statement M
 granted-spec =
-    tie.close
-    (tie.spec
+    f.Tie.close
+    (f.Tie.spec
     behind-requires
     mul-if1
     returns

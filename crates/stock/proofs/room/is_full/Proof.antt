@@ -1,16 +1,15 @@
 use Rattle.stock.proofs.RoomSteps.{full-beyond, full-told}
 use borrow.Author.Needs.{needs}
-use Rattle.stock.proofs.room.is_full.Statement.{statement}
-use Rattle.stock.proofs.room.is_full.Tie as tie
+use Rattle.stock.proofs.room.is_full as f
 
-returns : tie.Need-returns
+returns : f.Tie.Need-returns
 returns c = search full-beyond
 
-has-room-requires : tie.Need-has-room-requires
+has-room-requires : f.Tie.Need-has-room-requires
 has-room-requires c κs = search needs
 
-returns-2 : tie.Need-returns-2
+returns-2 : f.Tie.Need-returns-2
 returns-2 c = search full-told
 
-pub is-full-spec : {M : Type 1} → statement M
-is-full-spec = tie.close (tie.spec returns has-room-requires returns-2)
+pub is-full-spec : {M : Type 1} → f.Statement.statement M
+is-full-spec = f.Tie.close (f.Tie.spec returns has-room-requires returns-2)

@@ -1,61 +1,60 @@
 use Rattle.stock.proofs.TrimSteps.{trim-none, trim-invalid, trim-refused, trim-given}
 use Rattle.stock.proofs.TopSteps.{top-low}
 use borrow.Author.Needs.{needs}
-use Rattle.stock.proofs.trim.trim.Statement.{statement}
-use Rattle.stock.proofs.trim.trim.Tie as tie
+use Rattle.stock.proofs.trim.trim as f
 
-count-requires : tie.Need-count-requires
+count-requires : f.Tie.Need-count-requires
 count-requires c κs = search needs
 
-same-length : tie.Need-same-length
+same-length : f.Tie.Need-same-length
 same-length c = search needs
 
-returns : tie.Need-returns
+returns : f.Tie.Need-returns
 returns c = search trim-none
 
-top-valid-requires : tie.Need-top-valid-requires
+top-valid-requires : f.Tie.Need-top-valid-requires
 top-valid-requires c κs = search needs
 
-same-length-2 : tie.Need-same-length-2
+same-length-2 : f.Tie.Need-same-length-2
 same-length-2 c = search needs
 
-returns-2 : tie.Need-returns-2
+returns-2 : f.Tie.Need-returns-2
 returns-2 c = search trim-invalid
 
-sub-entry : tie.Need-sub-entry
+sub-entry : f.Tie.Need-sub-entry
 sub-entry c = search needs
 
-entry-requires : tie.Need-entry-requires
+entry-requires : f.Tie.Need-entry-requires
 entry-requires c κs = (search needs, search top-low)
 
-block-word-requires : tie.Need-block-word-requires
+block-word-requires : f.Tie.Need-block-word-requires
 block-word-requires c κs = search needs
 
-give-requires : tie.Need-give-requires
+give-requires : f.Tie.Need-give-requires
 give-requires c κs = search needs
 
-same-length-3 : tie.Need-same-length-3
+same-length-3 : f.Tie.Need-same-length-3
 same-length-3 c = search needs
 
-returns-3 : tie.Need-returns-3
+returns-3 : f.Tie.Need-returns-3
 returns-3 c = search trim-refused
 
-sub-set-count : tie.Need-sub-set-count
+sub-set-count : f.Tie.Need-sub-set-count
 sub-set-count c = search needs
 
-set-count-requires : tie.Need-set-count-requires
+set-count-requires : f.Tie.Need-set-count-requires
 set-count-requires c κs = search needs
 
-same-length-4 : tie.Need-same-length-4
+same-length-4 : f.Tie.Need-same-length-4
 same-length-4 c = search needs
 
-returns-4 : tie.Need-returns-4
+returns-4 : f.Tie.Need-returns-4
 returns-4 c = search trim-given
 
-pub trim-spec : {M : Type 1} → statement M
+pub trim-spec : {M : Type 1} → f.Statement.statement M
 trim-spec =
-    tie.close
-    (tie.spec
+    f.Tie.close
+    (f.Tie.spec
     count-requires
     same-length
     returns

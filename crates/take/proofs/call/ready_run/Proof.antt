@@ -1,12 +1,11 @@
 use borrow.Author.Needs.{needs}
 use Rattle.take.proofs.TakeSteps.{run-new, run-links, run-ready}
-use Rattle.take.proofs.call.ready_run.Statement.{statement}
-use Rattle.take.proofs.call.ready_run.Tie as tie
+use Rattle.take.proofs.call.ready_run as f
 
-pub ready-run-spec : {M : Type 1} → statement M
+pub ready-run-spec : {M : Type 1} → f.Statement.statement M
 ready-run-spec =
-    tie.close
-    (tie.spec
+    f.Tie.close
+    (f.Tie.spec
     (λ c κs. search run-new)
     (λ c κs. search run-links)
     (λ c κs. search needs)

@@ -1,18 +1,17 @@
 use borrow.Author.Needs.{needs}
 use Rattle.take.proofs.FillSteps.{FillInv, fill-starts, turn-pre, turn-written, turn-wanted, turn-some, fill-again, fill-done}
-use Rattle.take.proofs.take_fill.fill_from_list.Statement.{statement}
-use Rattle.take.proofs.take_fill.fill_from_list.Tie as tie
+use Rattle.take.proofs.take_fill.fill_from_list as f
 
-abbrev Inv-loop : tie.InvT-loop
+abbrev Inv-loop : f.Tie.InvT-loop
 Inv-loop meta₀ c shape list₀ count at₀ m₀ meta list at m = FillInv meta₀ c shape list₀ meta list at m
 
-abbrev μ-loop : tie.MeasureT-loop
+abbrev μ-loop : f.Tie.MeasureT-loop
 μ-loop meta₀ c shape list₀ count at₀ m₀ meta list at m = at
 
-pub fill-from-list-spec : {M : Type 1} → statement M
+pub fill-from-list-spec : {M : Type 1} → f.Statement.statement M
 fill-from-list-spec =
-    tie.close
-    (tie.spec
+    f.Tie.close
+    (f.Tie.spec
     Inv-loop
     μ-loop
     (λ c. search fill-starts)

@@ -1,12 +1,11 @@
 use borrow.Author.Needs.{needs}
 use Rattle.take.proofs.FillSteps.{turn-draws, turn-unlinks, turn-done}
-use Rattle.take.proofs.take_fill.fill_page.Statement.{statement}
-use Rattle.take.proofs.take_fill.fill_page.Tie as tie
+use Rattle.take.proofs.take_fill.fill_page as f
 
-pub fill-page-spec : {M : Type 1} → statement M
+pub fill-page-spec : {M : Type 1} → f.Statement.statement M
 fill-page-spec =
-    tie.close
-    (tie.spec
+    f.Tie.close
+    (f.Tie.spec
     (λ c κs. search needs)
     (λ c. search needs)
     (λ c κs. search turn-draws)

@@ -1,12 +1,11 @@
 use borrow.Author.Needs.{needs}
 use Rattle.take.proofs.PlanSteps.{share-above, share-prev, share-unsound, share-some, sound-supply}
-use Rattle.take.proofs.take_plan.share.Statement.{statement}
-use Rattle.take.proofs.take_plan.share.Tie as tie
+use Rattle.take.proofs.take_plan.share as f
 
-pub share-spec : {M : Type 1} → statement M
+pub share-spec : {M : Type 1} → f.Statement.statement M
 share-spec =
-    tie.close
-    (tie.spec
+    f.Tie.close
+    (f.Tie.spec
     (λ c κs. search needs)
     (λ c. search share-above)
     (λ c. search needs)

@@ -1,12 +1,11 @@
 use borrow.Author.Needs.{needs}
 use Rattle.take.proofs.TopEntriesSteps.{entries-none, entries-low, entries-high, entries-done}
-use Rattle.take.proofs.top_entries.entries_below.Statement.{statement}
-use Rattle.take.proofs.top_entries.entries_below.Tie as tie
+use Rattle.take.proofs.top_entries.entries_below as f
 
-pub entries-below-spec : {M : Type 1} → statement M
+pub entries-below-spec : {M : Type 1} → f.Statement.statement M
 entries-below-spec =
-    tie.close
-    (tie.spec
+    f.Tie.close
+    (f.Tie.spec
     (λ c. search needs)
     (λ c. entries-none _ _ _ _ _ (c .before .before .pre .1) (c .if1 .taken))
     (λ c. search needs)

@@ -1,19 +1,17 @@
-use Prim.Native.Nat.{_-_}
-use borrow.Author.Needs.{needs}
+use Rattle.facts.proofs.Prelude.{_-_, needs}
 use Rattle.take.proofs.TopEntriesSteps.{Pairs, pairs-none, pairs-more, pairs-done}
-use Rattle.take.proofs.top_entries.pairs_below.Statement.{statement}
-use Rattle.take.proofs.top_entries.pairs_below.Tie as tie
+use Rattle.take.proofs.top_entries.pairs_below as f
 
-abbrev Inv-loop : tie.InvT-loop
+abbrev Inv-loop : f.Tie.InvT-loop
 Inv-loop meta q x y carved below₀ z₀ below z = Pairs meta q carved x y z below
 
-abbrev μ-loop : tie.MeasureT-loop
+abbrev μ-loop : f.Tie.MeasureT-loop
 μ-loop meta q x y carved below₀ z₀ below z = y - z
 
-pub pairs-below-spec : {M : Type 1} → statement M
+pub pairs-below-spec : {M : Type 1} → f.Statement.statement M
 pairs-below-spec =
-    tie.close
-    (tie.spec
+    f.Tie.close
+    (f.Tie.spec
     Inv-loop
     μ-loop
     (λ c. search pairs-none)

@@ -1,24 +1,18 @@
 -- What is copied so far.
-use Prim.Native.Nat.{_+_, _-_, _≤_}
-use mathlib.Core.Path.{_≡_, refl, _∙_}
-use native.Mathlib.Omega.{arith}
-use borrow.Author.Needs.{needs}
-use lib.ListN.{length, length-set, getD}
-use lib.Seq.{paste, paste-zero}
+use Rattle.facts.proofs.Prelude.{_+_, _-_, _≤_, arith, _≡_, refl, _∙_, length, length-set, getD, paste, paste-zero, needs}
 use Rattle.trace.proofs.ListWays.{pasted-more}
-use Rattle.trace.proofs.lists.paste.Statement.{statement}
-use Rattle.trace.proofs.lists.paste.Tie as tie
+use Rattle.trace.proofs.lists.paste as f
 
-abbrev Inv-loop : tie.InvT-loop
+abbrev Inv-loop : f.Tie.InvT-loop
 Inv-loop to₀ at from m i₀ to i = (i ≤ m) × ((length to ≡ length to₀) × (to ≡ paste to₀ at from i))
 
-abbrev μ-loop : tie.MeasureT-loop
+abbrev μ-loop : f.Tie.MeasureT-loop
 μ-loop to₀ at from m i₀ to i = m - i
 
-loop-holds : tie.Need-loop-holds Inv-loop μ-loop
+loop-holds : f.Tie.Need-loop-holds Inv-loop μ-loop
 loop-holds c = (omega arith, (refl, paste-zero (c .args .to .now) (c .args .at) (c .args .from .now)))
 
-loop-again : tie.Need-loop-again Inv-loop μ-loop
+loop-again : f.Tie.Need-loop-again Inv-loop μ-loop
 loop-again c =
     let at = c .before .before in
     let a = at .before .args in
@@ -30,16 +24,16 @@ loop-again c =
       ),
     )
 
-returns : tie.Need-returns Inv-loop μ-loop
+returns : f.Tie.Need-returns Inv-loop μ-loop
 returns c =
     let l = c .before .loop in
     let e : l .i ≡ c .before .before .args .m = omega arith in
     rw (← e) (l .inv .1 .1)
 
-pub paste-spec : {M : Type 1} → statement M
+pub paste-spec : {M : Type 1} → f.Statement.statement M
 paste-spec =
-    tie.close
-    (tie.spec
+    f.Tie.close
+    (f.Tie.spec
     Inv-loop
     μ-loop
     loop-holds

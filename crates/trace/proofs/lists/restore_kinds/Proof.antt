@@ -1,21 +1,16 @@
 -- What is restored so far.
-use Prim.Native.Nat.{_-_, _≤_}
-use mathlib.Core.Path.{_≡_, refl, _∙_}
-use native.Mathlib.Omega.{arith}
-use borrow.Author.Needs.{needs}
-use lib.ListN.{length, length-set}
+use Rattle.facts.proofs.Prelude.{_-_, _≤_, arith, _≡_, refl, _∙_, length, length-set, needs}
 use Rattle.trace.specs.way.Pre.{restoreKinds}
 use Rattle.trace.proofs.ListWays.{restore-kind-start, restore-kind-more}
-use Rattle.trace.proofs.lists.restore_kinds.Statement.{statement}
-use Rattle.trace.proofs.lists.restore_kinds.Tie as tie
+use Rattle.trace.proofs.lists.restore_kinds as f
 
-abbrev Inv-loop : tie.InvT-loop
+abbrev Inv-loop : f.Tie.InvT-loop
 Inv-loop blocks₀ m i₀ blocks i = (i ≤ m) × ((length blocks ≡ length blocks₀) × (blocks ≡ restoreKinds blocks₀ i))
 
-abbrev μ-loop : tie.MeasureT-loop
+abbrev μ-loop : f.Tie.MeasureT-loop
 μ-loop blocks₀ m i₀ blocks i = m - i
 
-loop-again : tie.Need-loop-again Inv-loop μ-loop
+loop-again : f.Tie.Need-loop-again Inv-loop μ-loop
 loop-again c =
     let at = c .before .before .before in
     let l = at .loop in
@@ -27,16 +22,16 @@ loop-again c =
       ),
     )
 
-returns : tie.Need-returns Inv-loop μ-loop
+returns : f.Tie.Need-returns Inv-loop μ-loop
 returns c =
     let l = c .before .loop in
     let e : l .i ≡ c .before .before .before .args .m = omega arith in
     rw (← e) (l .inv .1 .1)
 
-pub restore-kinds-spec : {M : Type 1} → statement M
+pub restore-kinds-spec : {M : Type 1} → f.Statement.statement M
 restore-kinds-spec =
-    tie.close
-    (tie.spec
+    f.Tie.close
+    (f.Tie.spec
     Inv-loop
     μ-loop
     (λ c. (omega arith, (refl, restore-kind-start (c .before .args .blocks .now))))

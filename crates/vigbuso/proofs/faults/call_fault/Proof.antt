@@ -1,10 +1,9 @@
 use borrow.Author.Needs.{needs}
 use Rattle.vigbuso.proofs.FaultSteps.{call-unfit, call-host, call-fits}
-use Rattle.vigbuso.proofs.faults.call_fault.Statement.{statement}
-use Rattle.vigbuso.proofs.faults.call_fault.Tie as tie
+use Rattle.vigbuso.proofs.faults.call_fault as f
 
-pub call-fault-spec : {M : Type 1} → statement M
+pub call-fault-spec : {M : Type 1} → f.Statement.statement M
 call-fault-spec =
-    tie.close
-    (tie.spec
+    f.Tie.close
+    (f.Tie.spec
     (λ c κs. search needs) (λ c. search call-unfit) (λ c κs. search needs) (λ c κs. search needs) (λ c. search call-host) (λ c. search call-fits))

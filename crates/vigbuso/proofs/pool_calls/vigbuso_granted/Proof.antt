@@ -1,11 +1,9 @@
-use borrow.Author.Needs.{needs}
-use Rattle.vigbuso.proofs.pool_calls.vigbuso_granted.Statement.{statement}
-use Rattle.vigbuso.proofs.pool_calls.vigbuso_granted.Tie as tie
-use mathlib.Core.Path.{ap}
+use Rattle.facts.proofs.Prelude.{ap, needs}
+use Rattle.vigbuso.proofs.pool_calls.vigbuso_granted as f
 use Rattle.words.specs.Host.{digit}
 
-returns : tie.Need-returns
+returns : f.Tie.Need-returns
 returns c = ap digit (c .granted-on .ensures)
 
-pub vigbuso-granted-spec : {M : Type 1} → statement M
-vigbuso-granted-spec = tie.close (tie.spec (λ c κs. search needs) (λ c. search needs) returns)
+pub vigbuso-granted-spec : {M : Type 1} → f.Statement.statement M
+vigbuso-granted-spec = f.Tie.close (f.Tie.spec (λ c κs. search needs) (λ c. search needs) returns)

@@ -1,7 +1,6 @@
 use borrow.Author.Needs.{needs}
 use Rattle.witness.proofs.Witnessed.{contains-observed}
-use Rattle.witness.proofs.arena_calls.contains.Statement.{statement}
-use Rattle.witness.proofs.arena_calls.contains.Tie as tie
+use Rattle.witness.proofs.arena_calls.contains as f
 
-pub contains-spec : {M : Type 1} → statement M
-contains-spec = tie.close (tie.spec (λ c κs. search needs) (λ c. search contains-observed))
+pub contains-spec : {M : Type 1} → f.Statement.statement M
+contains-spec = f.Tie.close (f.Tie.spec (λ c κs. search needs) (λ c. search contains-observed))

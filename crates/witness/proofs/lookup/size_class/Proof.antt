@@ -1,7 +1,6 @@
 use borrow.Author.Needs.{needs}
 use Rattle.demands.proofs.Refusals.{size-answers}
-use Rattle.witness.proofs.lookup.size_class.Statement.{statement}
-use Rattle.witness.proofs.lookup.size_class.Tie as tie
+use Rattle.witness.proofs.lookup.size_class as f
 
-pub size-class-spec : {M : Type 1} → statement M
-size-class-spec = tie.close (tie.spec (λ c κs. search needs) (λ c. search size-answers))
+pub size-class-spec : {M : Type 1} → f.Statement.statement M
+size-class-spec = f.Tie.close (f.Tie.spec (λ c κs. search needs) (λ c. search size-answers))

@@ -1,7 +1,6 @@
 use borrow.Author.Needs.{needs}
 use Rattle.witness.proofs.Witnessed.{alloc-observed}
-use Rattle.witness.proofs.pool_calls.alloc.Statement.{statement}
-use Rattle.witness.proofs.pool_calls.alloc.Tie as tie
+use Rattle.witness.proofs.pool_calls.alloc as f
 
-pub alloc-spec : {M : Type 1} → statement M
-alloc-spec = tie.close (tie.spec (λ c κs. search needs) (λ c. search needs) (λ c. search alloc-observed))
+pub alloc-spec : {M : Type 1} → f.Statement.statement M
+alloc-spec = f.Tie.close (f.Tie.spec (λ c κs. search needs) (λ c. search needs) (λ c. search alloc-observed))

@@ -1,7 +1,6 @@
 use borrow.Author.Needs.{needs}
 use Rattle.witness.proofs.Witnessed.{class-observed}
-use Rattle.witness.proofs.pool_calls.class_of.Statement.{statement}
-use Rattle.witness.proofs.pool_calls.class_of.Tie as tie
+use Rattle.witness.proofs.pool_calls.class_of as f
 
-pub class-of-spec : {M : Type 1} → statement M
-class-of-spec = tie.close (tie.spec (λ c κs. search needs) (λ c. search class-observed))
+pub class-of-spec : {M : Type 1} → f.Statement.statement M
+class-of-spec = f.Tie.close (f.Tie.spec (λ c κs. search needs) (λ c. search class-observed))

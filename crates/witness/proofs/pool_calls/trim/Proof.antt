@@ -1,7 +1,6 @@
 use borrow.Author.Needs.{needs}
 use Rattle.witness.proofs.Witnessed.{trim-observed}
-use Rattle.witness.proofs.pool_calls.trim.Statement.{statement}
-use Rattle.witness.proofs.pool_calls.trim.Tie as tie
+use Rattle.witness.proofs.pool_calls.trim as f
 
-pub trim-spec : {M : Type 1} → statement M
-trim-spec = tie.close (tie.spec (λ c κs. search needs) (λ c. search needs) (λ c. search trim-observed))
+pub trim-spec : {M : Type 1} → f.Statement.statement M
+trim-spec = f.Tie.close (f.Tie.spec (λ c κs. search needs) (λ c. search needs) (λ c. search trim-observed))

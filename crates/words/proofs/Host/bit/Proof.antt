@@ -4,11 +4,10 @@ use mathlib.Core.Path.{ap}
 use Prim.Native.Nat.{ℕ, _/_, _^_}
 use lib.Bits.{and-mask}
 use lib.Dec.{eqb}
-use Rattle.words.proofs.Host.bit.Statement.{statement}
-use Rattle.words.proofs.Host.bit.Tie as tie
+use Rattle.words.proofs.Host.bit as f
 
-returns : tie.Need-returns
+returns : f.Tie.Need-returns
 returns c = ap (λ (n : ℕ). eqb n 1) (and-mask (c .before .args .self .bits / 2 ^ (c .before .args .k)) 1)
 
-pub bit-spec : {M : Type 1} → statement M
-bit-spec = tie.close (tie.spec (λ c. search needs) returns)
+pub bit-spec : {M : Type 1} → f.Statement.statement M
+bit-spec = f.Tie.close (f.Tie.spec (λ c. search needs) returns)

@@ -2,11 +2,10 @@
 use borrow.Author.Needs.{needs}
 use lib.Dec.{lit≤}
 use Rattle.words.proofs.Answers.{host-made}
-use Rattle.words.proofs.Host.new.Statement.{statement}
-use Rattle.words.proofs.Host.new.Tie as tie
+use Rattle.words.proofs.Host.new as f
 
-returns : tie.Need-returns
+returns : f.Tie.Need-returns
 returns c = host-made (c .args .reservation) (c .args .commit) (c .args .done) (c .args .zeroes) 32 (lit≤ tt)
 
-pub new-spec : {M : Type 1} → statement M
-new-spec = tie.close (tie.spec (λ c. search needs) (λ c. search needs) (λ c. search needs) (λ c. search needs) returns)
+pub new-spec : {M : Type 1} → f.Statement.statement M
+new-spec = f.Tie.close (f.Tie.spec (λ c. search needs) (λ c. search needs) (λ c. search needs) (λ c. search needs) returns)

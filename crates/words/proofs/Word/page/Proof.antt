@@ -1,8 +1,7 @@
 -- `words::Word::page` meets its contract.
 use lib.Bits.{and-mask}
 use Rattle.words.specs.Word.{pageBits}
-use Rattle.words.proofs.Word.page.Statement.{statement}
-use Rattle.words.proofs.Word.page.Tie as tie
+use Rattle.words.proofs.Word.page as f
 
-pub page-spec : {M : Type 1} → statement M
-page-spec = tie.close (tie.spec (λ c. and-mask _ pageBits))
+pub page-spec : {M : Type 1} → f.Statement.statement M
+page-spec = f.Tie.close (f.Tie.spec (λ c. and-mask _ pageBits))
