@@ -6,7 +6,7 @@ use Rattle.classes.proofs.Shapes.{shape-sound}
 use Rattle.fields.specs.Field.{arena, size, get}
 use Rattle.fields.specs.Ranges.{metaFault}
 use Rattle.calls.specs.Release as Back
-use Rattle.calls.specs.Release.{releasedNone, releaseBlocks}
+use Rattle.calls.specs.Release.{releaseBlocks}
 use Rattle.release.specs.declared.Released.{Released}
 use Rattle.release.specs.declared.Released.the-variants.{Refused, Fate}
 use Rattle.release.specs.way.Act.{Answered}
@@ -29,18 +29,18 @@ class-pre b c n sh z j f w =
 pub release-pre : (b : List ℕ) (h r low many c n : ℕ) → low + many ≤ 76 → r ≡ classFault b h many c → r ≡ 0 → n ≡ get b (arena size) → ClassPre n b (low + c) (shapeOf (low + c))
 release-pre b h r low many c n u e z f = class-pre b (low + c) n (shapeOf (low + c)) (class-book b h many c r e z) (omega (arith, class-below b h many c r e z)) f refl
 
+module _ (b : List ℕ) (h many c r : ℕ) (e : r ≡ classFault b h many c) (low : ℕ) (l : List ℕ) where
+  pub release-unfit : (r ≡ 0 → ⊥) → Answered (Refused r) b (releaseOn low many b c h l)
+  unfolding releaseOn
+  release-unfit d = rw (← e, ne-eqb r 0 d) (record { answer = refusal r d _; left = refl })
+
+  pub release-goes : (n : ℕ) (s : Released) (x : List ℕ) → r ≡ 0 → n ≡ get b (arena size) → Answered s x (releaseBlocks n b (low + c) (shapeOf (low + c)) h l) → Answered s x (releaseOn low many b c h l)
+  unfolding releaseOn
+  release-goes n s x z f t = rw (← e, eq-eqb r 0 z) (rw f at t)
+
 module _ (o : Back.Released) (x : List ℕ) (s : Released) (k : Answered s x o) where
   pub release-ends-refused : (c f : ℕ) → s ≡ Refused c → ReleaseEnds o c x f f
   release-ends-refused c f e = let z = sym (k .answer) ∙ e in record { code = rw z; book = k .left; fate = rw z }
 
   pub release-ends-fate : (g f : ℕ) → s ≡ Fate g → ReleaseEnds o 0 x f g
   release-ends-fate g f e = let z = sym (k .answer) ∙ e in record { code = rw z; book = k .left; fate = rw z }
-
-module _ (b : List ℕ) (h many c r : ℕ) (e : r ≡ classFault b h many c) (low : ℕ) (l : List ℕ) where
-  pub release-unfit : (f : ℕ) → (r ≡ 0 → ⊥) → ReleaseEnds (releaseOn low many b c h l) r b f f
-  unfolding releaseOn
-  release-unfit f d = rw (← e, ne-eqb r 0 d) (release-ends-refused (releasedNone b r) b (Refused r) (record { answer = refusal r d _; left = refl }) r f refl)
-
-  pub release-goes : (n : ℕ) (s : Released) (x : List ℕ) → r ≡ 0 → n ≡ get b (arena size) → Answered s x (releaseBlocks n b (low + c) (shapeOf (low + c)) h l) → Answered s x (releaseOn low many b c h l)
-  unfolding releaseOn
-  release-goes n s x z f t = rw (← e, eq-eqb r 0 z) (rw f at t)

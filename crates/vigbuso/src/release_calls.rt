@@ -2,6 +2,7 @@
 use crate::faults::class_fault;
 use release::Released;
 ghost use Prim.Native.Nat.{_+_, _≤_};
+ghost use Rattle.release.specs.way.Act.{Answered};
 ghost use Rattle.vigbuso.specs.Blocks.{releaseOn, ReleaseEnds};
 
 // A release of a class among those of ids `low` to `low + many - 1`.
@@ -12,24 +13,17 @@ fn release_on(
     class: u32,
     host: u32,
     list: &[u64],
-    fate: &mut u32,
-) -> u32
+) -> Released
     requires { ⌜ low + many ≤ 76 ⌝ }
-    ensures { λ r. ⌜ ReleaseEnds (releaseOn low many (now (meta .entry)) class host (now (list .entry))) r (now (meta .exit)) (now (fate .entry)) (now (fate .exit)) ⌝ }
+    ensures { λ r. ⌜ Answered r (now (meta .exit)) (releaseOn low many (now (meta .entry)) class host (now (list .entry))) ⌝ }
 {
     let fault = class_fault(meta, host, many, class);
     if fault != 0 {
-        return fault;
+        return Released::Refused(fault);
     }
     let size = fields::arena::size(meta);
     let id = low + class;
-    match release::release_blocks(meta, size, id, host, list) {
-        Released::Refused(k) => k,
-        Released::Fate(f) => {
-            *fate = f;
-            0
-        }
-    }
+    release::release_blocks(meta, size, id, host, list)
 }
 
 #[no_mangle]
@@ -42,7 +36,13 @@ pub extern "C" fn vigbuso_release_blocks(
 ) -> u32
     ensures { λ r. ⌜ ReleaseEnds (releaseOn 0 64 (now (meta .entry)) class host (now (list .entry))) r (now (meta .exit)) (now (fate .entry)) (now (fate .exit)) ⌝ }
 {
-    release_on(meta, 0, 64, class, host, list, fate)
+    match release_on(meta, 0, 64, class, host, list) {
+        Released::Refused(k) => k,
+        Released::Fate(f) => {
+            *fate = f;
+            0
+        }
+    }
 }
 
 #[no_mangle]
@@ -55,5 +55,11 @@ pub extern "C" fn vigbuso_medium_release_blocks(
 ) -> u32
     ensures { λ r. ⌜ ReleaseEnds (releaseOn 64 12 (now (meta .entry)) class host (now (list .entry))) r (now (meta .exit)) (now (fate .entry)) (now (fate .exit)) ⌝ }
 {
-    release_on(meta, 64, 12, class, host, list, fate)
+    match release_on(meta, 64, 12, class, host, list) {
+        Released::Refused(k) => k,
+        Released::Fate(f) => {
+            *fate = f;
+            0
+        }
+    }
 }
