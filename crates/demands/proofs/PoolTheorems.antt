@@ -8,7 +8,7 @@ use Rattle.rules.specs.Rules.{Rules, rulesOf}
 use Rattle.fields.specs.Field.{arena, size, get}
 use Rattle.fields.specs.Ranges.{maxPages, metaFault}
 use Rattle.model.specs.Arena as Arenas
-use Rattle.model.specs.Calls.{Call, Answer, Named, names}
+use Rattle.model.specs.Calls.{Call, Answer, Named, Request, take, giveBack, names}
 use Rattle.model.specs.Release.{ofKind, outHere}
 use Rattle.model.specs.Heap.{Heap, newHeap, step}
 use Rattle.model.specs.History.{Event, heapAfter}
@@ -23,16 +23,18 @@ use Rattle.refinement.proofs.ArenaReached.{heap-next, reached-after}
 use Rattle.refinement.proofs.Book.{setting-of}
 use Rattle.refinement.proofs.Found.{out-here}
 use Rattle.refinement.proofs.Whole.{call-whole}
-use Rattle.pool.specs.Pool.{Pool, newPool, PoolCall, PoolAnswer, PoolRequest, to, alloc, free, trim, callBy, poolStep}
+use Rattle.pool.specs.Stock.{stockMost, blank}
+use Rattle.pool.specs.Pool.{Pool, newPool, PoolCall, PoolAnswer, PoolRequest, to, alloc, free, trim, callBy, callFor, poolStep}
 use Rattle.pool.specs.Observed.{PoolEvent, observedOf, poolEvents, poolEventsFrom, poolAfter, heapCalls, poolAnswersOf, isOf}
-use Rattle.pool.specs.way.Claims.{answerTo}
+use Rattle.pool.specs.way.Claims as Claims
+use Rattle.pool.specs.way.Claims.{answerTo, heapNext}
 use Rattle.pool.proofs.Apart.{pool-disjoint}
 use Rattle.pool.proofs.Frees.{frees, unchanged}
 use Rattle.pool.proofs.OnHeap.{on-heap}
 use Rattle.pool.proofs.Conserved.{allocs, trims, conserved}
 use Rattle.pool.proofs.Alone.{pool-alone}
 use Rattle.poolcalls.specs.Stock.{countIn, stockFrom, stockIn, stocked}
-use Rattle.poolcalls.specs.Calls.{grantedIn, trimOn}
+use Rattle.poolcalls.specs.Calls.{PoolReply, grantedIn, trimOn}
 use Rattle.vigbuso.specs.Faults.{admits}
 use Rattle.vigbuso.specs.Pool.{poolOn, grantedOn}
 use Rattle.poolrefinement.specs.Run.{askOn}
@@ -46,7 +48,7 @@ use Rattle.poolrefinement.proofs.Runs.{stands}
 use Rattle.demands.specs.Call.{call}
 use Rattle.demands.specs.Run.{Opens, bookAfter}
 use Rattle.demands.specs.way.PoolStands.{PoolStands}
-use Rattle.demands.specs.Pool.{poolRun, poolBook, recorded, poolRecorded, poolObserved, AllocAnswers, FreeAnswers, TrimAnswers, PoolAt, PoolDemand}
+use Rattle.demands.specs.Pool.{poolRun, poolBook, recorded, poolRecorded, poolObserved, Leaves, AllocAnswers, FreeAnswers, TrimAnswers, PoolAt, PoolDemand}
 use Rattle.demands.proofs.Calls.{room, no-fault, call-is}
 use Rattle.demands.proofs.Histories.{run-represents}
 use Rattle.demands.proofs.Observed.{bare, bare-live, live-bare, bare-disjoint}
@@ -120,6 +122,53 @@ module _ (n : ℕ) (rows b : List ℕ) (o : Opens n rows b) (xs : List PoolCall)
   in-out : (c w : ℕ) → OutIn (poolObserved n rows b xs) c w → OutIn vs c w
   in-out c w u = bare-out vs c w (rw (observed-is n rows b o xs) at u)
 
+  stock-is : (c : ℕ) → ltb c classCount ≡ true → stockIn d c ≡ P .stock c
+  stock-is c hc = rep .stocks c hc .same
+
+  -- the stock after a request
+  stock-after : (c : ℕ) (x : PoolRequest) → ltb c classCount ≡ true → stockIn (poolOn d c x .book) c ≡ poolStep n P (to c x) .pool .stock c
+  stock-after c x low =
+      ap (λ s. stockIn (s .book) c) (ask-is n (room n rows b o .some-pages) few d P rep c x) ∙ pool-agrees n few (rulesOf rows) xs d rep c x .pool .stocks c low .same
+
+  -- the heap's call y on the book, and what a request leaves
+  step-next : (y : Call) → step n (heapAfter n (rulesOf rows) made) y .heap ≡ heapAfter n (rulesOf rows) (made ++ y ∷ [])
+  step-next y = sym (heap-next n (newHeap (rulesOf rows)) made y)
+
+  called : (y : Call) → Represents n (call d y .book) (heapAfter n (rulesOf rows) (made ++ y ∷ []))
+  called y =
+      subst (λ (r : Reply). Represents n (r .book) (heapAfter n (rulesOf rows) (made ++ y ∷ []))) (sym (call-reply y))
+      (subst (λ (G : Heap). Represents n (callReply n d y .book) G) (step-next y) (call-whole n few (rulesOf rows) made d heap y .heap))
+
+  pool-heap : P .heap ≡ heapAfter n (rulesOf rows) made
+  pool-heap = on-heap n few (rulesOf rows) xs .heap
+
+  asked-heap : (c : ℕ) (x : PoolRequest) → Represents n (poolOn d c x .book) (poolStep n P (to c x) .pool .heap)
+  asked-heap c x =
+      subst (λ (r : PoolReply). Represents n (r .book) (poolStep n P (to c x) .pool .heap)) (sym (ask-is n (room n rows b o .some-pages) few d P rep c x))
+      (pool-agrees n few (rulesOf rows) xs d rep c x .pool .heap)
+
+  leaves-heap : (c : ℕ) (x : PoolRequest) (st : List ℕ) → ltb c classCount ≡ true → Claims.Leaves n (rulesOf rows) xs c x (P .heap) st → Leaves d c x st d
+  leaves-heap c x st low l = record {
+    stock = stock-after c x low ∙ l .stock;
+    heap = λ ys. answers-same n (room n rows b o .some-pages) few (rulesOf rows) ys made (poolOn d c x .book) d
+        (subst (λ (G : Heap). Represents n (poolOn d c x .book) G) (l .heap ∙ pool-heap) (asked-heap c x)) heap;
+  }
+
+  leaves-call : (c : ℕ) (x : PoolRequest) (q : Request) (st : List ℕ) → ltb c classCount ≡ true → Claims.Leaves n (rulesOf rows) xs c x (heapNext n (rulesOf rows) xs c q) st → Leaves d c x st (call d (callFor c q) .book)
+  leaves-call c x q st low l =
+      let y = callFor c q in
+      record {
+        stock = stock-after c x low ∙ l .stock;
+        heap = λ ys. answers-same n (room n rows b o .some-pages) few (rulesOf rows) ys (made ++ y ∷ []) (poolOn d c x .book) (call d y .book)
+            (subst (λ (G : Heap). Represents n (poolOn d c x .book) G) (l .heap ∙ ap (λ (G : Heap). step n G y .heap) pool-heap ∙ step-next y) (asked-heap c x)) (called y);
+      }
+
+  -- the heap's own answer to the take of a refill
+  take-answer : (c h : ℕ) → call d (callFor c (take h blank)) .answer ≡ step n (P .heap) (callFor c (take h blank)) .answer
+  take-answer c h =
+      let y = callFor c (take h blank) in
+      ap (λ r. r .answer) (call-reply y) ∙ call-whole n few (rulesOf rows) made d heap y .answer ∙ ap (λ (G : Heap). step n G y .answer) (sym pool-heap)
+
   free-answers : (c h w : ℕ) → badHost h ≡ false → ltb c classCount ≡ true → FreeAnswers d (poolObserved n rows b xs) c h w
   free-answers c h w ok low =
       let a = answer-is c (free h w) in
@@ -128,15 +177,11 @@ module _ (n : ℕ) (rows b : List ℕ) (o : Opens n rows b) (xs : List PoolCall)
         done = ((λ e. out-in c w (f .done ok low .0 (sym a ∙ e))), (λ u. a ∙ f .done ok low .1 (in-out c w u)));
         kind = λ k. a ∙ f .kind ok low k;
         stale = λ k ne. a ∙ f .stale ok low k (λ u. ne (out-in c w u));
+        stocks = λ u e. let l = f .stocks ok low (in-out c w u) (ap (λ s. ltb (length s) (stockMost c)) (sym (stock-is c low)) ∙ e) in
+            subst (λ (s : List ℕ). Leaves d c (free h w) (w ∷ s) d) (sym (stock-is c low)) (leaves-heap c (free h w) _ low l);
+        returns = λ u e. let l = f .returns ok low (in-out c w u) (ap (λ s. ltb (length s) (stockMost c)) (sym (stock-is c low)) ∙ e) in
+            subst (λ (s : List ℕ). Leaves d c (free h w) s (call d (callFor c (giveBack h (w ∷ []))) .book)) (sym (stock-is c low)) (leaves-call c (free h w) (giveBack h (w ∷ [])) _ low l);
       }
-
-  stock-is : (c : ℕ) → ltb c classCount ≡ true → stockIn d c ≡ P .stock c
-  stock-is c hc = rep .stocks c hc .same
-
-  -- the stock after a request
-  stock-after : (c : ℕ) (x : PoolRequest) → ltb c classCount ≡ true → stockIn (poolOn d c x .book) c ≡ poolStep n P (to c x) .pool .stock c
-  stock-after c x low =
-      ap (λ s. stockIn (s .book) c) (ask-is n (room n rows b o .some-pages) few d P rep c x) ∙ pool-agrees n few (rulesOf rows) xs d rep c x .pool .stocks c low .same
 
   alloc-answers : (c h : ℕ) → badHost h ≡ false → ltb c classCount ≡ true → AllocAnswers n rows d (poolObserved n rows b xs) made c h
   alloc-answers c h ok low =
@@ -149,7 +194,8 @@ module _ (n : ℕ) (rows b : List ℕ) (o : Opens n rows b) (xs : List PoolCall)
           (λ t. a ∙ f .none .1 (sym (stock-is c low) ∙ t .0, t .1, sym runs ∙ t .2)),
         );
         some = λ ne. let g = f .some (λ e. ne (a ∙ e)) in (g .0, a ∙ g .1, λ u. g .2 (in-out c (g .0) u));
-        top = λ w ws e. let v = f .top w ws (sym (stock-is c low) ∙ e) in (a ∙ v .0, stock-after c (alloc h) low ∙ v .1);
+        top = λ w ws e. let v = f .top w ws (sym (stock-is c low) ∙ e) in (a ∙ v .0, leaves-heap c (alloc h) ws low (v .1));
+        refill = λ e. let v = f .refill (sym (stock-is c low) ∙ e) in rw (take-answer c h) (a ∙ v .0, leaves-call c (alloc h) (take h blank) _ low (v .1));
       }
 
   -- the heap's test of a block
@@ -203,7 +249,7 @@ module _ (n : ℕ) (rows b : List ℕ) (o : Opens n rows b) (xs : List PoolCall)
       record {
         none = ((λ e. stock-is c low ∙ t .none .0 (sym a ∙ e)), (λ e. a ∙ t .none .1 (sym (stock-is c low) ∙ e)));
         still = λ e. ap (λ s. s .book) asked ∙ trim-still n d c h ok low e;
-        top = λ w ws e. let v = t .top w ws (sym (stock-is c low) ∙ e) in (a ∙ v .0, stock-after c (trim h) low ∙ v .1);
+        top = λ w ws e. let v = t .top w ws (sym (stock-is c low) ∙ e) in (a ∙ v .0, leaves-call c (trim h) (giveBack h (w ∷ [])) ws low (v .1));
       }
 
   holds-after : PoolAt n rows d (poolObserved n rows b xs) made

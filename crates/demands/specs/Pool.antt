@@ -7,7 +7,7 @@
 use Prim.Native.Nat.{ℕ, _≤_}
 use mathlib.Core.Path.{_≡_}
 use mathlib.Core.Logic.{_⊎_, _↔_}
-use mathlib.Core.List.{List, [], _∷_, _++_, map}
+use mathlib.Core.List.{List, [], _∷_, _++_, map, reverse}
 use mathlib.Core.Option.{none, some}
 use mathlib.Core.Bool.{true, false}
 use lib.Dec.{eqb, ltb}
@@ -16,7 +16,7 @@ use Rattle.facts.specs.Lists.{All, elem, distinct, isSome}
 use Rattle.words.specs.Host.{badHost}
 use Rattle.classes.specs.Shape.{shapeOf, classCount}
 use Rattle.rules.specs.Rules.{rulesOf}
-use Rattle.model.specs.Calls.{Call, Named, names, isRefused}
+use Rattle.model.specs.Calls.{Call, Named, take, giveBack, names, isRefused, blocksOf}
 use Rattle.model.specs.Arena as Arenas
 use Rattle.model.specs.Release.{ofKind}
 use Rattle.model.specs.History.{Event, events}
@@ -25,8 +25,8 @@ use Rattle.model.specs.Offered.{Spent}
 use Rattle.model.specs.Demands.{Disjoint}
 use Rattle.arena.specs.Load.{loadArena}
 use Rattle.calls.specs.Out.{outAt}
-use Rattle.pool.specs.Stock.{countMax}
-use Rattle.pool.specs.Pool.{PoolCall, PoolAnswer, PoolRequest, Direct, to, direct, alloc, free, trim, hostIn, callBy, answered, refused, granted, trimmed, noBlock, freed}
+use Rattle.pool.specs.Stock.{countMax, stockMost, blank}
+use Rattle.pool.specs.Pool.{PoolCall, PoolAnswer, PoolRequest, Direct, to, direct, alloc, free, trim, hostIn, callBy, callFor, bring, answered, refused, granted, trimmed, noBlock, freed}
 use Rattle.pool.specs.Observed.{PoolEvent, observedOf, poolEvents, heapCalls, poolCallsOf, poolAnswersOf, poolRunsOf}
 use Rattle.poolcalls.specs.Stock.{stockIn}
 use Rattle.poolcalls.specs.Calls.{PoolReply, poolReply}
@@ -61,25 +61,42 @@ poolRecorded n rows b xs = recorded xs (poolRun n rows b xs)
 abbrev pub poolObserved : ℕ → List ℕ → List ℕ → List PoolCall → List Event
 poolObserved n rows b xs = observedOf (poolRecorded n rows b xs)
 
+-- the heap in two books answers every further history of document 01's calls alike
+abbrev pub HeapAlike : List ℕ → List ℕ → Type 0
+HeapAlike d e = (ys : List Call) → answersIn (repliesFrom call d ys) ≡ answersIn (repliesFrom call e ys)
+
+-- a request leaves this stock, and the heap as in this book
+pub record Leaves (b : List ℕ) (c : ℕ) (x : PoolRequest) (st e : List ℕ) : Type 0 where
+  pub stock : stockIn (poolOn b c x .book) c ≡ st
+  pub heap : HeapAlike (poolOn b c x .book) e
+
 -- an alloc answers none exactly if the class has no block in stock, every block of every run of it is out by the heap's calls, and the arena has no run
--- for it; else it is granted a block that is no grant yet, and with blocks in stock their top, which leaves the others there
+-- for it; else it is granted a block that is no grant yet: the stock's top, which leaves the others there and the heap as it is; or, with none in stock, of
+-- a take's blocks the one popped first, and the others come into stock
 pub record AllocAnswers (n : ℕ) (rows b : List ℕ) (vs : List Event) (made : List Call) (c h : ℕ) : Type 0 where
   pub none : (poolOn b c (alloc h) .answer ≡ noBlock)
       ↔ ((stockIn b c ≡ []) × Spent (events n (rulesOf rows) made) c × (Arenas.commit n h (shapeOf c .pages) (loadArena b) .run ≡ none))
   pub some : (poolOn b c (alloc h) .answer ≡ noBlock → ⊥) → (w : ℕ) × (poolOn b c (alloc h) .answer ≡ granted w) × (OutIn vs c w → ⊥)
-  pub top : (w : ℕ) (ws : List ℕ) → stockIn b c ≡ w ∷ ws → (poolOn b c (alloc h) .answer ≡ granted w) × (stockIn (poolOn b c (alloc h) .book) c ≡ ws)
+  pub top : (w : ℕ) (ws : List ℕ) → stockIn b c ≡ w ∷ ws → (poolOn b c (alloc h) .answer ≡ granted w) × Leaves b c (alloc h) ws b
+  pub refill : stockIn b c ≡ []
+      → (let t = call b (callFor c (take h blank)) in let e = bring (reverse (blocksOf (t .answer))) in
+      (poolOn b c (alloc h) .answer ≡ e .answer) × Leaves b c (alloc h) (e .stock) (t .book))
 
--- a free is carried out exactly if its block is a grant of that class not yet freed, and else is number 9 or 10
+-- a free is carried out exactly if its block is a grant of that class not yet freed, and else is number 9 or 10; the block comes on top of the stock where
+-- that holds less than its most, and else goes back to the heap, and the others stay
 pub record FreeAnswers (b : List ℕ) (vs : List Event) (c h w : ℕ) : Type 0 where
   pub done : (poolOn b c (free h w) .answer ≡ freed) ↔ OutIn vs c w
   pub kind : ofKind (shapeOf c .kind) w ≡ false → poolOn b c (free h w) .answer ≡ refused 9
   pub stale : ofKind (shapeOf c .kind) w ≡ true → (OutIn vs c w → ⊥) → poolOn b c (free h w) .answer ≡ refused 10
+  pub stocks : OutIn vs c w → ltb (length (stockIn b c)) (stockMost c) ≡ true → Leaves b c (free h w) (w ∷ stockIn b c) b
+  pub returns : OutIn vs c w → ltb (length (stockIn b c)) (stockMost c) ≡ false → Leaves b c (free h w) (stockIn b c) (call b (callFor c (giveBack h (w ∷ []))) .book)
 
--- a trim answers none exactly if the class has no block in stock, and then leaves the book; else it answers the stock's top, and leaves the others there
+-- a trim answers none exactly if the class has no block in stock, and then leaves the book; else it answers the stock's top, which goes back to the heap, and
+-- leaves the others there
 pub record TrimAnswers (b : List ℕ) (c h : ℕ) : Type 0 where
   pub none : (poolOn b c (trim h) .answer ≡ noBlock) ↔ (stockIn b c ≡ [])
   pub still : stockIn b c ≡ [] → poolOn b c (trim h) .book ≡ b
-  pub top : (w : ℕ) (ws : List ℕ) → stockIn b c ≡ w ∷ ws → (poolOn b c (trim h) .answer ≡ trimmed w) × (stockIn (poolOn b c (trim h) .book) c ≡ ws)
+  pub top : (w : ℕ) (ws : List ℕ) → stockIn b c ≡ w ∷ ws → (poolOn b c (trim h) .answer ≡ trimmed w) × Leaves b c (trim h) ws (call b (callFor c (giveBack h (w ∷ []))) .book)
 
 -- after a history that left the book d and told vs; `made` are the heap's calls that it made
 pub record PoolAt (n : ℕ) (rows d : List ℕ) (vs : List Event) (made : List Call) : Type 0 where
@@ -123,14 +140,13 @@ pub record PoolDemand : Type 0 where
       → (poolAnswersOf c (poolRecorded n₁ rows₁ b₁ xs) ≡ poolAnswersOf c (poolRecorded n₂ rows₂ b₂ ys))
       ↔ (poolRunsOf c (poolEvents n₁ (rulesOf rows₁) xs) ≡ poolRunsOf c (poolEvents n₂ (rulesOf rows₂) ys))
   -- the heap's part of the book is what the heap's calls leave: every further history of these is answered as on the book that they leave by themselves
-  pub heapPart : (n : ℕ) (rows b : List ℕ) → Opens n rows b → (xs : List PoolCall) (ys : List Call)
-      → answersIn (repliesFrom call (poolBook n rows b xs) ys) ≡ answersIn (repliesFrom call (bookAfter n rows b (heapCalls n (rulesOf rows) xs)) ys)
+  pub heapPart : (n : ℕ) (rows b : List ℕ) → Opens n rows b → (xs : List PoolCall) → HeapAlike (poolBook n rows b xs) (bookAfter n rows b (heapCalls n (rulesOf rows) xs))
   -- they read none of the pool's words: every book with the same words of the heap answers them alike
   pub unread : (n : ℕ) (rows b : List ℕ) → Opens n rows b → (xs : List PoolCall) (e : List ℕ) → length e ≡ length (poolBook n rows b xs)
       → ((i : ℕ) → heapWord i ≡ true → getD e i 0 ≡ getD (poolBook n rows b xs) i 0)
-      → (ys : List Call) → answersIn (repliesFrom call e ys) ≡ answersIn (repliesFrom call (poolBook n rows b xs) ys)
-  -- a heap's call on the book that a history left changes none of the pool's words; one that names another class, or none, leaves what the class has in
-  -- stock and what it has out
+      → HeapAlike e (poolBook n rows b xs)
+  -- a heap's call on the book that a history left changes none of the pool's words; one that names another class leaves what the class has in stock
+  -- and what it has out
   pub words : (n : ℕ) (rows b : List ℕ) → Opens n rows b → (xs : List PoolCall) (y : Call) (i : ℕ) → heapWord i ≡ false
       → getD (call (poolBook n rows b xs) y .book) i 0 ≡ getD (poolBook n rows b xs) i 0
   pub beside : (n : ℕ) (rows b : List ℕ) → Opens n rows b → (xs : List PoolCall) (y : Call) (p : Named) → names y ≡ some p → (c : ℕ) → ltb c classCount ≡ true → eqb (p .class) c ≡ false

@@ -6,9 +6,9 @@ use Rattle.words.specs.Host.{badHost}
 use Rattle.classes.specs.Shape.{shapeOf, classCount}
 use Rattle.classes.proofs.Shapes.{shape-sound}
 use Rattle.rules.specs.Rules.{Rules}
-use Rattle.model.specs.Calls.{take, blocksOf}
+use Rattle.model.specs.Calls.{take, giveBack, blocksOf}
 use Rattle.model.specs.Entries.{Entry}
-use Rattle.model.specs.Heap.{Heap}
+use Rattle.model.specs.Heap.{Heap, step}
 use Rattle.model.specs.History.{events}
 use Rattle.model.specs.Offered.{Spent, NoneListed}
 use Rattle.model.specs.Yields.{Listed}
@@ -17,7 +17,7 @@ use Rattle.model.proofs.EntryCounts.{is}
 use Rattle.model.proofs.Sites.{here-out}
 use Rattle.model.proofs.Theorems.{yielding, offered}
 use Rattle.pool.specs.Stock.{blank}
-use Rattle.pool.specs.Pool.{Pool, newPool, PoolCall, PoolAnswer, to, alloc, trim, poolStep, plan, planAlloc, planTrim, carry, ends, bring, firstOf, granted, noBlock}
+use Rattle.pool.specs.Pool.{Pool, newPool, PoolCall, PoolAnswer, to, alloc, trim, poolStep, plan, planAlloc, planTrim, carry, ends, callFor, bring, firstOf, granted, noBlock}
 use Rattle.pool.specs.Observed.{asAnswer, observedOf, poolEvents, poolFrom, poolAfter, heapCalls}
 use Rattle.pool.specs.way.Claims.{Allocs, Trims, Conserved}
 use Rattle.pool.proofs.Kept.{PoolInv, PoolKept, pool-kept, call-kept, at-most}
@@ -50,9 +50,16 @@ module _ (size : ℕ) (c h : ℕ) (ok : badHost h ≡ false) (low : ltb c classC
   grants [] e ne = some-brought _ (reverse (blocksOf (took size P c h .answer))) (rw (ok, low, e, took-done size P c h ok low)) ne
   grants (w ∷ ws) e ne = (w, rw (ok, low, e))
 
-  popped : (w : ℕ) (ws : List ℕ) → P .stock c ≡ w ∷ ws → (poolStep size P (to c (alloc h)) .answer ≡ granted w) × (poolStep size P (to c (alloc h)) .pool .stock c ≡ ws)
+  popped : (w : ℕ) (ws : List ℕ) → P .stock c ≡ w ∷ ws
+      → (poolStep size P (to c (alloc h)) .answer ≡ granted w) × (poolStep size P (to c (alloc h)) .pool .heap ≡ P .heap) × (poolStep size P (to c (alloc h)) .pool .stock c ≡ ws)
   unfolding poolStep plan planAlloc carry
-  popped w ws e = (rw (ok, low, e), rw (ok, low, e, eq-eqb c c refl))
+  popped w ws e = (rw (ok, low, e), rw (ok, low, e), rw (ok, low, e, eq-eqb c c refl))
+
+  refilled : P .stock c ≡ []
+      → (let t = bring (reverse (blocksOf (took size P c h .answer))) in
+      (poolStep size P (to c (alloc h)) .answer ≡ t .answer) × (poolStep size P (to c (alloc h)) .pool .heap ≡ took size P c h .heap) × (poolStep size P (to c (alloc h)) .pool .stock c ≡ t .stock))
+  unfolding poolStep plan planAlloc carry ends
+  refilled e = let d = took-done size P c h ok low in (rw (ok, low, e, d), rw (ok, low, e), rw (ok, low, e, d, eq-eqb c c refl))
 
   -- the block was no grant: it would be out twice
   new-grant : (n k : ℕ) (es gs : List Entry) (f : ℕ → Bool) (l : ℕ → ℕ) → PoolInv size n k P es gs f l → (w : ℕ) → poolStep size P (to c (alloc h)) .answer ≡ granted w → total (is c w) gs ≡ 0
@@ -72,7 +79,8 @@ allocs size small rules xs c h ok low =
       none = ((λ e. let t = f .0 e in (t .0, u .1 (t .1), t .2)), (λ t. f .1 (t .0, u .0 (t .1), t .2)));
       some = λ ne. let g = grants size c h ok low P (P .stock c) refl ne in
           (g .0, g .1, λ o. omega (arith, out-observed vs c (g .0) o, new-grant size c h ok low P _ _ _ _ _ _ (pool-kept size rules xs .kept .holds) (g .0) (g .1)));
-      top = popped size c h ok low P;
+      top = λ w ws e. let r = popped size c h ok low P w ws e in (r .0, record { heap = r .1; stock = r .2 });
+      refill = λ e. let r = refilled size c h ok low P e in (r .0, record { heap = r .1; stock = r .2 });
     }
 
 -- ---- trims
@@ -95,6 +103,10 @@ module _ (size : ℕ) (small : size ≤ maxPages) (c h : ℕ) (ok : badHost h �
     trimmed-left [] e = rw (ok, low, e, eq-eqb c c refl)
     trimmed-left (w ∷ ws) e = rw (ok, low, e, gives size small n k P es gs f l K c w h ok low (stock-out size small n k P es gs f l K c w ws e), eq-eqb c c refl)
 
+    trimmed-heap : (w : ℕ) (ws : List ℕ) → P .stock c ≡ w ∷ ws → poolStep size P (to c (trim h)) .pool .heap ≡ step size (P .heap) (callFor c (giveBack h (w ∷ []))) .heap
+    unfolding poolStep plan planTrim carry
+    trimmed-heap w ws e = rw (ok, low, e)
+
     trimmed-first : (st : List ℕ) → P .stock c ≡ st → poolStep size P (to c (trim h)) .answer ≡ firstOf st
     unfolding poolStep plan planTrim carry ends
     trimmed-first [] e = rw (ok, low, e)
@@ -115,7 +127,10 @@ trims size small rules xs c h ok low =
         (λ e. none-first (P .stock c) (sym (trimmed-first size small c h ok low _ _ P _ _ _ _ I (P .stock c) refl) ∙ e)),
         trimmed-first size small c h ok low _ _ P _ _ _ _ I [],
       );
-      top = λ w ws e. (trimmed-first size small c h ok low _ _ P _ _ _ _ I (w ∷ ws) e, trimmed-left size small c h ok low _ _ P _ _ _ _ I (w ∷ ws) e);
+      top = λ w ws e. (
+        trimmed-first size small c h ok low _ _ P _ _ _ _ I (w ∷ ws) e,
+        record { heap = trimmed-heap size small c h ok low _ _ P _ _ _ _ I w ws e; stock = trimmed-left size small c h ok low _ _ P _ _ _ _ I (w ∷ ws) e },
+      );
     }
 
 -- ---- each once

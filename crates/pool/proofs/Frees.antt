@@ -70,6 +70,19 @@ module _ (size : ℕ) (small : size ≤ maxPages) (n k : ℕ) (P : Pool) (es gs 
       rw (ok, low, out-kind out, grant-tested o)
       (by-cases (ltb (length (P .stock c)) (stockMost c)) (λ e. rw e) (λ e. rw (e, gives h ok low out)))
 
+  -- where the block is then
+  module _ (h : ℕ) (ok : badHost h ≡ false) (low : ltb c classCount ≡ true) (o : 1 ≤ total (is c w) gs) where
+    free-stocks : ltb (length (P .stock c)) (stockMost c) ≡ true → (poolStep size P (to c (free h w)) .pool .heap ≡ P .heap) × (poolStep size P (to c (free h w)) .pool .stock c ≡ w ∷ P .stock c)
+    unfolding poolStep plan planFree carry
+    free-stocks e = let k = out-kind (omega (arith, K .split c w)) in (rw (ok, low, k, grant-tested o, e), rw (ok, low, k, grant-tested o, e, eq-eqb c c refl))
+
+    free-returns : ltb (length (P .stock c)) (stockMost c) ≡ false
+        → (poolStep size P (to c (free h w)) .pool .heap ≡ step size (P .heap) (callFor c (giveBack h (w ∷ []))) .heap) × (poolStep size P (to c (free h w)) .pool .stock c ≡ P .stock c)
+    unfolding poolStep plan planFree carry ends
+    free-returns e =
+        let out : 1 ≤ total (is c w) es = omega (arith, K .split c w) in
+        (rw (ok, low, out-kind out, grant-tested o, e), rw (ok, low, out-kind out, grant-tested o, e, gives h ok low out, eq-eqb c c refl))
+
   free-only : (h : ℕ) {p : Plan} → Planned c (P .heap .classes c) (P .stock c) (free h w) p → carry size P c (free h w) p .answer ≡ freed → total (is c w) gs ≡ 1
   unfolding carry
   free-only h (is-turned m) e = let z : _≡_ {A = ℕ} 0 1 = cc in absurd (omega arith)
@@ -116,6 +129,8 @@ frees size small rules xs c h w =
           by-cases (isGranted (shapeOf c) (P .heap .classes c) (P .stock c) w)
           (λ g. absurd (no (observed-out vs c w (omega (arith, grant-one size _ _ P _ _ _ _ (K .holds) c low w g .1)))))
           (free-stale size P c h w ok low kd);
+      stocks = λ ok low o e. let r = free-stocks size small _ _ P _ _ _ _ (K .holds) c w h ok low (out-observed vs c w o) e in record { heap = r .0; stock = r .1 };
+      returns = λ ok low o e. let r = free-returns size small _ _ P _ _ _ _ (K .holds) c w h ok low (out-observed vs c w o) e in record { heap = r .0; stock = r .1 };
     }
 
 -- ---- none

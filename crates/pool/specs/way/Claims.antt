@@ -2,7 +2,7 @@
 use Prim.Native.Nat.{ℕ, _≤_}
 use mathlib.Core.Path.{_≡_}
 use mathlib.Core.Logic.{_⊎_, _↔_}
-use mathlib.Core.List.{List, [], _∷_, _++_}
+use mathlib.Core.List.{List, [], _∷_, _++_, reverse}
 use mathlib.Core.Option.{none}
 use mathlib.Core.Bool.{true, false}
 use lib.Dec.{ltb}
@@ -11,14 +11,16 @@ use Rattle.facts.specs.Lists.{All, elem, distinct, isSome}
 use Rattle.words.specs.Host.{badHost}
 use Rattle.classes.specs.Shape.{shapeOf, classCount}
 use Rattle.rules.specs.Rules.{Rules}
-use Rattle.model.specs.Calls.{names, isRefused}
+use Rattle.model.specs.Calls.{Request, take, giveBack, names, isRefused, blocksOf}
 use Rattle.model.specs.Arena as Arenas
 use Rattle.model.specs.Release.{ofKind, outHere}
+use Rattle.model.specs.Heap.{Heap, step}
 use Rattle.model.specs.History.{events, heapAfter}
 use Rattle.model.specs.Entries.{OutIn}
 use Rattle.model.specs.Offered.{Spent}
 use Rattle.model.specs.Demands.{Disjoint}
-use Rattle.pool.specs.Pool.{PoolCall, PoolRequest, PoolAnswer, to, alloc, free, trim, hostIn, poolStep, refused, granted, trimmed, noBlock, freed}
+use Rattle.pool.specs.Stock.{stockMost, blank}
+use Rattle.pool.specs.Pool.{PoolCall, PoolRequest, PoolAnswer, to, alloc, free, trim, hostIn, callFor, bring, poolStep, refused, granted, trimmed, noBlock, freed}
 use Rattle.pool.specs.Observed.{poolEvents, poolAfter, heapCalls, observedOf, poolCallsOf, poolAnswersOf, poolRunsOf}
 
 -- two grants not yet freed share a byte exactly when they are the same grant, and none has a byte of a page held by hand
@@ -35,12 +37,25 @@ pub record OnHeap (size : ℕ) (rules : Rules) (xs : List PoolCall) : Type 0 whe
 abbrev pub answerTo : ℕ → Rules → List PoolCall → ℕ → PoolRequest → PoolAnswer
 answerTo size rules xs c x = poolStep size (poolAfter size rules xs) (to c x) .answer
 
+-- what it leaves of the heap and in the class's stock; what the heap's call for a request leaves
+pub record Leaves (size : ℕ) (rules : Rules) (xs : List PoolCall) (c : ℕ) (x : PoolRequest) (H : Heap) (st : List ℕ) : Type 0 where
+  pub heap : poolStep size (poolAfter size rules xs) (to c x) .pool .heap ≡ H
+  pub stock : poolStep size (poolAfter size rules xs) (to c x) .pool .stock c ≡ st
+
+abbrev pub heapNext : ℕ → Rules → List PoolCall → ℕ → Request → Heap
+heapNext size rules xs c r = step size (poolAfter size rules xs .heap) (callFor c r) .heap
+
 -- a free is carried out exactly if its block is a grant of that class not yet freed, and else is number 9 or 10
 pub record Frees (size : ℕ) (rules : Rules) (xs : List PoolCall) (c h w : ℕ) : Type 0 where
   pub done : badHost h ≡ false → ltb c classCount ≡ true → (answerTo size rules xs c (free h w) ≡ freed) ↔ OutIn (observedOf (poolEvents size rules xs)) c w
   pub kind : badHost h ≡ false → ltb c classCount ≡ true → ofKind (shapeOf c .kind) w ≡ false → answerTo size rules xs c (free h w) ≡ refused 9
   pub stale : badHost h ≡ false → ltb c classCount ≡ true → ofKind (shapeOf c .kind) w ≡ true → (OutIn (observedOf (poolEvents size rules xs)) c w → ⊥)
       → answerTo size rules xs c (free h w) ≡ refused 10
+  -- the block comes on top of the stock where that holds less than its most, and else goes to the heap; the other blocks stay
+  pub stocks : badHost h ≡ false → ltb c classCount ≡ true → OutIn (observedOf (poolEvents size rules xs)) c w → ltb (length (poolAfter size rules xs .stock c)) (stockMost c) ≡ true
+      → Leaves size rules xs c (free h w) (poolAfter size rules xs .heap) (w ∷ poolAfter size rules xs .stock c)
+  pub returns : badHost h ≡ false → ltb c classCount ≡ true → OutIn (observedOf (poolEvents size rules xs)) c w → ltb (length (poolAfter size rules xs .stock c)) (stockMost c) ≡ false
+      → Leaves size rules xs c (free h w) (heapNext size rules xs c (giveBack h (w ∷ []))) (poolAfter size rules xs .stock c)
 
 -- an alloc answers none exactly if the class has no block in stock, every block of every run of it is out by the heap's calls, and the arena
 -- has no run for it; else it is granted a block that is no grant yet, and with blocks in stock their top, which leaves the others
@@ -51,13 +66,17 @@ pub record Allocs (size : ℕ) (rules : Rules) (xs : List PoolCall) (c h : ℕ) 
   pub some : (answerTo size rules xs c (alloc h) ≡ noBlock → ⊥)
       → (w : ℕ) × (answerTo size rules xs c (alloc h) ≡ granted w) × (OutIn (observedOf (poolEvents size rules xs)) c w → ⊥)
   pub top : (w : ℕ) (ws : List ℕ) → poolAfter size rules xs .stock c ≡ w ∷ ws
-      → (answerTo size rules xs c (alloc h) ≡ granted w) × (poolStep size (poolAfter size rules xs) (to c (alloc h)) .pool .stock c ≡ ws)
+      → (answerTo size rules xs c (alloc h) ≡ granted w) × Leaves size rules xs c (alloc h) (poolAfter size rules xs .heap) ws
+  -- with none it is a take: the block that was popped first is granted, the others come into stock
+  pub refill : poolAfter size rules xs .stock c ≡ []
+      → (let e = bring (reverse (blocksOf (step size (poolAfter size rules xs .heap) (callFor c (take h blank)) .answer))) in
+      (answerTo size rules xs c (alloc h) ≡ e .answer) × Leaves size rules xs c (alloc h) (heapNext size rules xs c (take h blank)) (e .stock))
 
 -- a trim answers none exactly if the class has no block in stock; else the stock's top, and leaves the others
 pub record Trims (size : ℕ) (rules : Rules) (xs : List PoolCall) (c h : ℕ) : Type 0 where
   pub none : (answerTo size rules xs c (trim h) ≡ noBlock) ↔ (poolAfter size rules xs .stock c ≡ [])
   pub top : (w : ℕ) (ws : List ℕ) → poolAfter size rules xs .stock c ≡ w ∷ ws
-      → (answerTo size rules xs c (trim h) ≡ trimmed w) × (poolStep size (poolAfter size rules xs) (to c (trim h)) .pool .stock c ≡ ws)
+      → (answerTo size rules xs c (trim h) ≡ trimmed w) × Leaves size rules xs c (trim h) (heapNext size rules xs c (giveBack h (w ∷ []))) ws
 
 -- a refused call changes nothing, and makes no call of the heap; its number is 3, 4, 9 or 10, and 3 and 4 come first
 pub record Unchanged (size : ℕ) (rules : Rules) (xs : List PoolCall) (c : ℕ) (x : PoolRequest) : Type 0 where
