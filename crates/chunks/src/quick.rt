@@ -9,7 +9,7 @@ use super::valid::chunks_valid;
 use classes::Shape;
 use release::marks_of;
 
-// The chunks' pages have no mark set: the listed blocks are marked, and taken, or else the marks are.
+// The chunks' pages have no mark set. The listed blocks are marked; then they are taken, or else the marks are cleared.
 fn mark_and_take(
     meta: &mut [u32],
     n: u32,

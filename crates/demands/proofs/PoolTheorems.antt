@@ -14,6 +14,7 @@ use Rattle.model.specs.Heap.{Heap, newHeap, step}
 use Rattle.model.specs.History.{Event, heapAfter}
 use Rattle.model.specs.Entries.{OutIn}
 use Rattle.model.proofs.Ways.{goes}
+use Rattle.model.proofs.Theorems.{outs}
 use Rattle.model.proofs.Alone.{other}
 use Rattle.calls.specs.Out.{outAt}
 use Rattle.refinement.specs.way.Represents.{Represents}
@@ -265,6 +266,12 @@ module _ (n : ℕ) (rows b : List ℕ) (o : Opens n rows b) (xs : List PoolCall)
         made-done = on-heap n few (rulesOf rows) xs .done;
         numbers = λ c x k e. unchanged n few (rulesOf rows) xs c x .low k (sym (answer-is c x) ∙ e);
         direct-valid = λ y e. call-whole n few (rulesOf rows) made d heap (callBy y) .valid (ap (λ r. r .code) (sym (call-reply (callBy y))) ∙ e);
+        made-out = λ c w hc.
+            let u = outs n (rulesOf rows) made .out c w in
+            let same : outHere (shapeOf c) (P .heap .classes c) w ≡ outHere (shapeOf c) (heapAfter n (rulesOf rows) made .classes c) w = ap (λ (G : Heap). outHere (shapeOf c) (G .classes c) w) pool-heap in (
+              (λ e. elim (cons .out c w .0 (same ∙ u .1 e)) [ inl v ↦ inl (out-in c w v) | inr s ↦ inr (ap (elem w) (stock-is c hc) ∙ s) ]),
+              (λ e. u .0 (sym same ∙ cons .out c w .1 (elim e [ inl v ↦ inl (in-out c w v) | inr s ↦ inr (sym (ap (elem w) (stock-is c hc)) ∙ s) ]))),
+            );
         out = λ c w hc k. (
           (λ e. elim (cons .out c w .0 (sym (out-test c w hc k) ∙ e)) [ inl u ↦ inl (out-in c w u) | inr s ↦ inr (ap (elem w) (stock-is c hc) ∙ s) ]),
           (λ e. out-test c w hc k ∙ cons .out c w .1 (elim e [ inl u ↦ inl (in-out c w u) | inr s ↦ inr (sym (ap (elem w) (stock-is c hc)) ∙ s) ])),

@@ -114,7 +114,8 @@ pub record PoolAt (n : ℕ) (rows d : List ℕ) (vs : List Event) (made : List C
   -- a call that is refused has number 3, 4, 9 or 10 (and leaves the book, as specs/PoolRefusals says of every book); 13 never answers, a direct call neither
   pub numbers : (c : ℕ) (x : PoolRequest) (k : ℕ) → poolOn d c x .answer ≡ refused k → elem k (3 ∷ 4 ∷ 9 ∷ 10 ∷ []) ≡ true
   pub direct-valid : (y : Direct) → call d (callBy y) .code ≡ 13 → ⊥
-  -- a block out at the heap is granted or in stock, and each of these once
+  -- a block out at the heap, by the calls that were made and by the book, is granted or in stock, and each of these once
+  pub made-out : (c w : ℕ) → ltb c classCount ≡ true → OutIn (events n (rulesOf rows) made) c w ↔ (OutIn vs c w ⊎ (elem w (stockIn d c) ≡ true))
   pub out : (c w : ℕ) → ltb c classCount ≡ true → ofKind (shapeOf c .kind) w ≡ true
       → (outAt n d c (shapeOf c) w ≡ true) ↔ (OutIn vs c w ⊎ (elem w (stockIn d c) ≡ true))
   pub either : (c w : ℕ) → ltb c classCount ≡ true → OutIn vs c w → elem w (stockIn d c) ≡ false

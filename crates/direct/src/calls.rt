@@ -73,7 +73,7 @@ pub fn release(meta: &mut [u32], size: u32, first: u64, pages: u64) -> u32
     12
 }
 
-// A run that the direct calls hold and that ends at page `end`: what the settled growth answers.
+// From number 13 on: the growth of a run that the direct calls hold and that ends at page `end`.
 fn grow_held(meta: &mut [u32], size: u32, host: u32, end: u32, pages: u32) -> Grow
     requires { ⌜ BookIn (now meta) size × (end ≤ maxPages) × (pages ≤ maxPages + 1) ⌝ }
     ensures { λ r. ⌜ Grows r (now (meta .exit)) (validGrow size (now (meta .entry)) host end pages) ⌝ }

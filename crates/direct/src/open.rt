@@ -1,4 +1,4 @@
-// Opening: 0 in the words before the holes, then the arena's length and the limits of every class.
+// Opening: 0 in the first 768 words, then the arena's length and the limits of every class.
 ghost use mathlib.Core.Path.{_≡_};
 ghost use Prim.Native.Nat.{_≤_};
 ghost use lib.ListN.{length};

@@ -8,7 +8,7 @@ use classes::Shape;
 use pages::Park;
 use words::limits::MAX_PARKED;
 
-// A page's own words, of which m blocks or more are out.
+// The own words of a page that has m blocks or more out.
 pub fn header_valid(meta: &[u32], shape: Shape, m: usize, q: u32) -> bool
     requires { ⌜ PagePre (now meta) q ⌝ }
     ensures { λ r. ⌜ r ≡ headerValid (now (meta .entry)) shape m q ⌝ }

@@ -20,7 +20,7 @@ pub enum Take {
     Took(u32, bool),
 }
 
-// A run that the arena gave, as the class's only page.
+// A run that the arena gave, as the partial list's only page.
 fn ready_run(meta: &mut [u32], c: u32, shape: Shape, q: u32) -> Plan
     requires { ⌜ TakeRunPre (now meta) c shape q ⌝ }
     ensures { λ r. ⌜ Readies r (now (meta .exit)) c shape (onRunAt (now (meta .entry)) c shape q) ⌝ }
@@ -30,7 +30,7 @@ fn ready_run(meta: &mut [u32], c: u32, shape: Shape, q: u32) -> Plan
     Plan::Fill(lists::min(shape.batch, shape.capacity), true)
 }
 
-// All being granted a new run is answered, and its blocks are more than there is room for.
+// A new run's blocks are more than there is room for, and a commit with all granted would answer a run.
 fn exceeds(meta: &[u32], n: u32, shape: Shape, room: usize) -> bool
     requires { ⌜ BookIn (now meta) n × (shape .pages ≤ maxPages + 1) ⌝ }
     ensures { λ r. ⌜ Exceeds r room n (now (meta .entry)) shape ⌝ }
@@ -91,7 +91,7 @@ fn make_ready(meta: &mut [u32], n: u32, c: u32, shape: Shape, host: u32, room: u
 
 // A class's take from number 5 on, on the book of an arena of n pages. A list that need not be whole, a trace's, has room for the blocks or is refused. The
 // answer goes through out-parameters, as the exported takes have it: an enum would go through memory (docs/BACKEND.md).
-fn take_list(
+fn take_within(
     meta: &mut [u32],
     n: u32,
     c: u32,
@@ -136,7 +136,7 @@ pub fn take_into(
     requires { ⌜ CallPre n (now meta) c ⌝ }
     ensures { λ r. ⌜ TakesInto r (now (meta .exit)) (now (list .exit)) (now (count .entry)) (now (count .exit)) (now (virgin .entry)) (now (virgin .exit)) (takeCall n (now (meta .entry)) c (shapeOf c) host (now (list .entry))) ⌝ }
 {
-    take_list(meta, n, c, host, list, true, count, virgin)
+    take_within(meta, n, c, host, list, true, count, virgin)
 }
 
 // The answer as one value.
@@ -146,7 +146,7 @@ pub fn take_call(meta: &mut [u32], n: u32, c: u32, host: u32, list: &mut [u64], 
 {
     let mut count = 0;
     let mut virgin = 0;
-    let code = take_list(meta, n, c, host, list, whole, &mut count, &mut virgin);
+    let code = take_within(meta, n, c, host, list, whole, &mut count, &mut virgin);
     if code != 0 {
         return Take::Refused(code);
     }

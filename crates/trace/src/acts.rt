@@ -43,7 +43,7 @@ pub fn class_at(meta: &[u32], n: u32, w: u64) -> u32
     k - 1
 }
 
-// The release of one block, in the class that its page is of. A list is made only where `release_one` leaves it.
+// The release of one block, in the class that its page is of. A list is made only where `release_one` does not carry it out.
 pub fn back_now(meta: &mut [u32], n: u32, w: u64) -> Released
     requires { ⌜ BookPre n (now meta) ⌝ }
     ensures { λ r. ⌜ Answered r (now (meta .exit)) (backNow n (now (meta .entry)) w) ⌝ }

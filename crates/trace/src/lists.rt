@@ -1,4 +1,4 @@
-// What a word writes to the lent lists.
+// What a release and a report write to the lent lists, and the kinds restored at the end.
 ghost use mathlib.Core.Path.{_≡_};
 ghost use mathlib.Core.Bool.{true};
 ghost use Prim.Native.Nat.{_+_, _≤_};
@@ -44,7 +44,7 @@ pub fn flip_kind(w: u64) -> u64
     with_kind(Word::CHUNK, w)
 }
 
-// The first m numbers of one list, words or figures, come to another, from place `at` on.
+// The first m figures of one list come to another, from place `at` on.
 pub fn paste(to: &mut [u64], at: usize, from: &[u64], m: usize)
     requires { ⌜ (at + m ≤ length (now to)) × (m ≤ length (now from)) ⌝ }
     ensures { λ _. ⌜ now (to .exit) ≡ paste (now (to .entry)) at (now (from .entry)) m ⌝ }

@@ -78,7 +78,7 @@ pub record FirstPre (b : List ℕ) (c : ℕ) : Type 0 where
   pub some : get b (class partial c) ≡ 0 → 0 < get b (class (top (firstStore b c)) c)
   pub unparks : get b (class partial c) ≡ 0 → UnparkRunPre b c (firstStore b c) (get b (class (top (firstStore b c)) c) - 1)
 
--- ---- a run that the arena gave, where the class has no page
+-- ---- a run that the arena gave, where no source has a page
 pub record TakeRunPre (b : List ℕ) (c : ℕ) (sh : Shape) (q : ℕ) : Type 0 where
   pub pages : ℕ
   pub pre : TakePre pages b c sh

@@ -1,6 +1,6 @@
 use borrow.Author.Needs.{needs}
 use Rattle.take.proofs.TakeSteps.{shape-pre, list-short, list-granted, list-refused, list-none, list-fills, list-took}
-use Rattle.take.proofs.call.take_list as f
+use Rattle.take.proofs.call.take_within as f
 
 fill-from-list-requires : f.Tie.Need-fill-from-list-requires
 fill-from-list-requires c κs =
@@ -16,8 +16,8 @@ returns-3 c = search list-none
 returns-4 : f.Tie.Need-returns-4
 returns-4 c = search list-took
 
-pub take-list-spec : {M : Type 1} → f.Statement.statement M
-take-list-spec =
+pub take-within-spec : {M : Type 1} → f.Statement.statement M
+take-within-spec =
     f.Tie.close
     (f.Tie.spec
     (λ c κs. search needs) (λ c. search needs) (λ c. search list-short) (λ c κs. (search shape-pre, search list-granted)) (λ c. search needs) (λ c. search needs) (λ c. search needs) fill-from-list-requires
