@@ -446,13 +446,16 @@ def limit(name, heap, plain):
     family, which = plain
     told = dict(small=[4, 256], medium=[32, 256])[family]
     wrong = [int(new) if which == at else number for at, number in enumerate(told)]
-    in_code = lambda numbers: at(12, f"empty: {numbers[0]},", f"cold: {numbers[1]},")
+    by_family = lambda small, medium: f"if c < NUM_CLASSES {{ {small} }} else {{ {medium} }}"
+    others = dict(small=[32, 256], medium=[4, 256])[family][which]
+    changed = by_family(new, others) if family == "small" else by_family(others, new)
+    in_code = ("let empty = " + by_family(4, 32), "let empty = " + changed) if which == 0 else ("cold: 256 }", f"cold: {changed} }}")
     return Rule(
         name,
         heap=[("heap.rs", f"const {const} = {old};", f"const {const} = {new};")],
         model=[
             (ROWS, f"(limits {told[0]} {told[1]})", f"(limits {wrong[0]} {wrong[1]})"),
-            (ROWS_CODE, in_code(told), in_code(wrong)),
+            (ROWS_CODE, *in_code),
         ],
     )
 
