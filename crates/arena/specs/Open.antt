@@ -3,7 +3,7 @@
 use Prim.Native.Nat.{ℕ, zero, suc}
 use mathlib.Core.List.{List}
 use lib.ListN.{set}
-use Rattle.classes.specs.Shape.{classCount}
+use Rattle.words.specs.Limits.{classRows}
 use Rattle.rules.specs.declared.Limits.{Limits}
 use Rattle.rules.specs.Rules.{Rules}
 use Rattle.fields.specs.Field.{arena, class, size, emptyLimit, coldLimit, put}
@@ -13,7 +13,7 @@ unfoldable pub cleared : List ℕ → ℕ → List ℕ
 cleared b zero = b
 cleared b (suc k) = set (cleared b k) k 0
 
--- the words before the holes: 160 of the arena, 8 of each of 76 classes
+-- the words before the holes: 160 of the arena, 8 of each of 76 class rows
 unfoldable pub headWords : ℕ
 headWords = 768
 
@@ -26,4 +26,4 @@ ruled b rules zero = b
 ruled b rules (suc k) = limited (ruled b rules k) k (rules k)
 
 unfoldable pub opened : ℕ → Rules → List ℕ → List ℕ
-opened n rules b = ruled (put (cleared b headWords) (arena size) n) rules classCount
+opened n rules b = ruled (put (cleared b headWords) (arena size) n) rules classRows

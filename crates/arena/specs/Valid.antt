@@ -5,9 +5,9 @@ use mathlib.Core.List.{List}
 use mathlib.Core.Bool.{Bool, true, cond, not, _&&_}
 use lib.Dec.{leb}
 use Rattle.facts.specs.Lists.{every, below}
+use Rattle.words.specs.Limits.{classRows}
 use Rattle.fields.specs.Field.{arena, class, state, frontier, holes, holePages, held, emptyCount, coldCount, get}
 use Rattle.fields.specs.Ranges.{maxParked}
-use Rattle.classes.specs.Shape.{classCount}
 use Rattle.model.specs.declared.Hole.{Hole}
 use Rattle.words.specs.Host.{commitGranted}
 use Rattle.model.specs.HoleStore.{holeSlots, holePagesMax}
@@ -56,7 +56,7 @@ abbrev pub countsValid : List ℕ → ℕ → Bool
 countsValid b c = leb (get b (class emptyCount c)) maxParked && leb (get b (class coldCount c)) maxParked
 
 unfoldable pub allCountsValid : List ℕ → Bool
-allCountsValid b = every (countsValid b) (below classCount)
+allCountsValid b = every (countsValid b) (below classRows)
 
 unfoldable pub reportValid : ℕ → List ℕ → Bool
 reportValid n b = recordValid n b && allCountsValid b

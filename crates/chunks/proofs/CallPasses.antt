@@ -3,6 +3,7 @@
 --     mismatch, invalid, taken               numbers 11 and 13, and the taking
 use Rattle.facts.proofs.Prelude.{ℕ, _+_, _≤_, _<_, arith, Bool, true, false, cond, _&&_, _||_, List, [], _∷_, _++_, _≡_, refl, sym, ap, _∙_, eqb, ltb, leb}
 use Rattle.facts.proofs.Prelude.{length, drop, length-append, lt-ltb, leb-true, le-leb, eq-eqb, every, All, and-left, and-right, eqb-turned, every-same}
+use Rattle.words.specs.Limits.{classRows}
 use Rattle.words.specs.Word.{countOf, pageOf}
 use Rattle.classes.specs.declared.Shape.{Shape}
 use Rattle.fields.specs.Field.{Field, arena, class, page, slot, out, region, off, frontier, partial, empty, emptyCount, cold, coldCount, next, prev, free, carved, listed, get, put, words, hole, ok, emptyLimit, coldLimit}
@@ -86,8 +87,8 @@ module _ (n : ℕ) (b : List ℕ) (c : ℕ) (sh : Shape) (ws gs : List ℕ) (a :
       stack : Changes stacked b (pushAll b sh ws)
       stack = push-stacks b sh ws pushing
 
-      hc : ltb c 76 ≡ true
-      hc = lt-ltb c 76 (a .call .class .known)
+      hc : ltb c classRows ≡ true
+      hc = lt-ltb c classRows (a .call .class .known)
 
       row-kept : rowValid (pushAll b sh ws) c ≡ rowValid b c
       unfolding rowValid
@@ -240,7 +241,7 @@ module _ (n : ℕ) (b : List ℕ) (c : ℕ) (sh : Shape) (ws gs : List ℕ) (a :
   pub settle-next : chunksMatch b ws gs ≡ true → chunksValid n b c sh gs ≡ true → (fs : List ℕ) → length gs ≤ length fs → (h : ℕ) → SettlePre n (cleared b sh ws) c sh h ws gs fs
   settle-next m f fs l h =
       settle-pre n (cleared b sh ws) c sh ws gs taken-pre (match-kept b (cleared b sh ws) changes ws gs ∙ m)
-      (chunks-valid-kept b (cleared b sh ws) changes c (lt-ltb c 76 (a .call .class .known)) n sh gs ∙ f) fs l h (own-blocks ws (a .out))
+      (chunks-valid-kept b (cleared b sh ws) changes c (lt-ltb c classRows (a .call .class .known)) n sh gs ∙ f) fs l h (own-blocks ws (a .out))
 
   module _ (t : Bool) (b′ : List ℕ) (k : Matched t b′ n b ws gs) where
     told : chunksMatch b ws gs ≡ t
@@ -286,5 +287,5 @@ module _ (n : ℕ) (b : List ℕ) (c : ℕ) (sh : Shape) (h : ℕ) (ws gs fs : L
 
     pub settles : (b₃ : List ℕ) → b₃ ≡ giveRuns b₂ (sh .pages) (givesIn gs fs₂) → ChunksAnswered 0 b₃ fs₂ (settledTo (allPlaced b c sh h ws gs) sh gs fs)
     settles b₃ x =
-        let z = gives-in c (lt-ltb c 76 (a .placing .known)) sh (a .placing .sound) h (pushAll b sh ws) gs (drop (length gs) fs) in
+        let z = gives-in c (lt-ltb c classRows (a .placing .known)) sh (a .placing .sound) h (pushAll b sh ws) gs (drop (length gs) fs) in
         record { answer = refl; left = x ∙ rw (p .left, p .fates, e, ← z); fates = p .fates ∙ rw e }

@@ -5,6 +5,7 @@
 --     small-pre                  what the call asks holds of every small class
 use Rattle.facts.proofs.Prelude.{ℕ, _≤_, _<_, arith, Bool, true, false, cond, not, _&&_, _||_, List, [], _∷_, _≡_, refl, sym, _∙_, eqb}
 use Rattle.facts.proofs.Prelude.{ltb, leb, length, lt-ltb, le-ltb, le-leb, ne-eqb, eqb-true, eqb-false, isNil, every, by-cases, and-left}
+use Rattle.words.specs.Limits.{classRows}
 use Rattle.words.specs.Word.{chunkKind}
 use Rattle.classes.specs.declared.Shape.{Shape}
 use Rattle.classes.specs.Shape.{smallShape, shapeOf}
@@ -66,8 +67,8 @@ module _ (n : ℕ) (b : List ℕ) (c : ℕ) (sh : Shape) (ws gs : List ℕ) (a :
   hb : leb (words n) (length b) ≡ true
   hb = le-leb (words n) (length b) (a .call .class .long)
 
-  hc : ltb c 76 ≡ true
-  hc = lt-ltb c 76 (a .call .class .known)
+  hc : ltb c classRows ≡ true
+  hc = lt-ltb c classRows (a .call .class .known)
 
   pub fault-pre : FaultPre n b c sh ws
   fault-pre = record { class = a .call .class; kinds = and-left (every (ofKind (sh .kind)) ws) (every (ofKind chunkKind) gs) (a .kinds) }

@@ -6,6 +6,7 @@
 --     slots-left                       number 13 passed: the pages' stacks have room for the listed blocks
 use Rattle.facts.proofs.Prelude.{ℕ, zero, suc, _+_, _≤_, _<_, arith, Bool, true, false, not, _&&_, true≢false, false≢true, List, [], _∷_, map, _≡_, refl, ap, _∙_, eqb}
 use Rattle.facts.proofs.Prelude.{ltb, leb, length, ltb-true, lt-ltb, leb-true, eqb-true, not-true, every, elem, distinct, by-cases, and-left, and-right, every-same}
+use Rattle.words.specs.Limits.{classRows}
 use Rattle.words.specs.Word.{countOf, pageOf}
 use Rattle.classes.specs.declared.Shape.{Shape}
 use Rattle.fields.specs.Field.{arena, class, hole, page, frontier, partial, empty, emptyCount, cold, coldCount, next, prev, free, carved, listed, virgin, get, words, emptyLimit, coldLimit}
@@ -72,7 +73,7 @@ module _ (b b′ : List ℕ) (h : Changes isBit b b′) where
   valid-kept : (n m : ℕ) → giveValid n b′ m ≡ giveValid n b m
   valid-kept n m = give-kept n b b′ (λ f. h .kept (arena f) refl refl) (λ f j o. h .kept (hole f j) o refl) m
 
-  module _ (c : ℕ) (hc : ltb c 76 ≡ true) where
+  module _ (c : ℕ) (hc : ltb c classRows ≡ true) where
     row-kept : rowValid b′ c ≡ rowValid b c
     unfolding rowValid
     row-kept =

@@ -7,6 +7,7 @@
 use Rattle.facts.proofs.Prelude.{ℕ, _+_, _≤_, _<_, arith, Bool, true, false, not, _&&_, true≢false, List, [], _∷_, _++_, map, _≡_}
 use Rattle.facts.proofs.Prelude.{refl, sym, ap, _∙_, eqb, ltb, leb, length, length-map, lt-ltb, ltb-true, leb-true, eq-eqb, eqb-true}
 use Rattle.facts.proofs.Prelude.{eqb-false, ne-eqb, not-true, every, All, elem, distinct, by-cases, and-left, and-right, every-same}
+use Rattle.words.specs.Limits.{classRows}
 use Rattle.words.specs.Word.{countOf, pageOf}
 use Rattle.classes.specs.declared.Shape.{Shape}
 use Rattle.classes.specs.way.Sound.{Sound}
@@ -87,7 +88,7 @@ chunk-back b c sh h q is low =
     let m = get b (page free q) in
     rw (back-free b q is low, put-comm (push (setOuts b q 0 is) q m is) (page virgin q) (page free q) 0 (m + length is) refl refl refl)
 
-module _ (c : ℕ) (sh : Shape) (h : ℕ) (hc : ltb c 76 ≡ true) (few : sh .capacity ≤ 4096) where
+module _ (c : ℕ) (sh : Shape) (h : ℕ) (hc : ltb c classRows ≡ true) (few : sh .capacity ≤ 4096) where
   -- ---- blocks of other pages may as well come back after it
   module _ (q p : ℕ) (d : eqb p q ≡ false) where
     place-marks : (is : List ℕ) → every small is ≡ true → (b : List ℕ) → placeAt (setOuts b p 0 is) c sh h q ≡ onBook (λ x. setOuts x p 0 is) (placeAt b c sh h q)
@@ -189,7 +190,7 @@ module _ (n : ℕ) (b : List ℕ) (c : ℕ) (sh : Shape) (ws : List ℕ) (s : So
   all-free [] = tt
   all-free (q ∷ qs) = (refl, all-free qs)
 
-  pub gathered : (h : ℕ) (gs : List ℕ) → ltb c 76 ≡ true → chunksMatch b ws gs ≡ true → every (λ g. pageValid b sh (countOf g) (pageOf g)) gs ≡ true
+  pub gathered : (h : ℕ) (gs : List ℕ) → ltb c classRows ≡ true → chunksMatch b ws gs ≡ true → every (λ g. pageValid b sh (countOf g) (pageOf g)) gs ≡ true
       → placeAll (pushAll (cleared b sh ws) sh ws) c sh h gs ≡ settleChunks b c sh h ws gs
   unfolding chunksMatch
   gathered h gs hc m f =

@@ -6,6 +6,7 @@
 --     all-changes    what placing all may change: nothing of the arena's record
 use Rattle.facts.proofs.Prelude.{ℕ, suc, _+_, arith, Bool, true, false, cond, not, _&&_, _||_, true≢false, List, [], _∷_, _++_, map, _≡_, refl, sym, ap, _∙_}
 use Rattle.facts.proofs.Prelude.{eqb, ltb, leb, length, length-append, ltb-true, ne-eqb, eqb-false, not-true, All, elem, distinct, by-cases, and-left, and-right}
+use Rattle.words.specs.Limits.{classRows}
 use Rattle.words.specs.Word.{pageOf}
 use Rattle.classes.specs.declared.Shape.{Shape}
 use Rattle.classes.specs.way.Sound.{Sound}
@@ -50,7 +51,7 @@ cold-stays sh q = by (isMedium sh)
     by true = refl
     by false = refl
 
-module _ (n c q : ℕ) (hc : ltb c 76 ≡ true) where
+module _ (n c q : ℕ) (hc : ltb c classRows ≡ true) where
   park-run-counts : (b : List ℕ) (p : Park) → leb (words n) (length b) ≡ true → get (parkRun b c p q) (class (stored p) c) ≡ get b (class (stored p) c) + 1
   unfolding parkRun
   park-run-counts b p hb =
@@ -98,7 +99,7 @@ module _ (n c q : ℕ) (hc : ltb c 76 ≡ true) where
         by : (t : Bool) → Adds c q (get b (class emptyCount c)) (get b (class coldCount c)) t (destinationAt b c sh) (cond t (setRetired (parkAs (unlisted d₁ c q) c sh h q (destinationAt d₁ c sh))) (released (relisted d₀ c q) 0))
         by true =
             let u = unlisted d₁ c q in
-            let z = unlisted-changes d₁ c q (ltb-true c 76 hc) in
+            let z = unlisted-changes d₁ c q (ltb-true c classRows hc) in
             let e : get (unlisted d₁ c q) (class emptyCount c) ≡ get b (class emptyCount c) = z .kept (class emptyCount c) hc refl ∙ same (stored Empty) in
             let k : get (unlisted d₁ c q) (class coldCount c) ≡ get b (class coldCount c) = z .kept (class coldCount c) hc refl ∙ same (stored Cold) in
             let l : length (unlisted d₁ c q) ≡ length b
@@ -106,7 +107,7 @@ module _ (n c q : ℕ) (hc : ltb c 76 ≡ true) where
             let x : destinationAt d₁ c sh ≡ destinationAt b c sh = rw (same (stored Empty), same (stored Cold), same emptyLimit, same coldLimit) in
             rw x (rw (e, k) at (as-adds u (rw l hb) (destinationAt b c sh)))
         by false =
-            let z = relisted-changes d₀ c q (ltb-true c 76 hc) in
+            let z = relisted-changes d₀ c q (ltb-true c classRows hc) in
             record {
               empty = z .kept (class emptyCount c) hc refl ∙ get-put-other b (page virgin q) (class emptyCount c) 0 refl hc refl;
               cold = z .kept (class coldCount c) hc refl ∙ get-put-other b (page virgin q) (class coldCount c) 0 refl hc refl;
@@ -120,7 +121,7 @@ idle b q = eqb (get b (page carved q)) (get b (page free q))
 abbrev pub ofClass : Field → Bool
 ofClass f = eqb (region f) 2 || leb 4 (region f)
 
-module _ (c : ℕ) (hc : ltb c 76 ≡ true) (sh : Shape) (s : Sound sh) (h : ℕ) where
+module _ (c : ℕ) (hc : ltb c classRows ≡ true) (sh : Shape) (s : Sound sh) (h : ℕ) where
   idle-kept : (b₀ : List ℕ) (q : ℕ) (b b′ : List ℕ) → Changes (writes q) b b′ → (gs : List ℕ) → elem q (map pageOf gs) ≡ false
       → All (λ g. idle b (pageOf g) ≡ returnsAll b₀ g) gs → All (λ g. idle b′ (pageOf g) ≡ returnsAll b₀ g) gs
   idle-kept b₀ q b b′ z [] e a = tt

@@ -5,6 +5,7 @@
 --     place-changes  what placing may change
 use Rattle.facts.proofs.Prelude.{ℕ, zero, suc, _+_, _≤_, arith, Bool, true, false, cond, not, _&&_, _||_, List, []}
 use Rattle.facts.proofs.Prelude.{_∷_, _≡_, refl, eqb, ltb, leb, length, lt-ltb, eq-eqb, every, and-left, and-right}
+use Rattle.words.specs.Limits.{classRows}
 use Rattle.classes.specs.declared.Shape.{Shape}
 use Rattle.fields.specs.Field.{Field, PageField, class, page, slot, out, region, off, row, partial, emptyCount, coldCount, emptyLimit, coldLimit, next, prev, free, carved, listed, virgin, get, put, ok}
 use Rattle.fields.specs.Outcome.{putAt}
@@ -58,7 +59,7 @@ module _ (t : Field → Bool) (f : Field) (v : ℕ) (of : ok f ≡ true) (tf : t
 pub own : (q : ℕ) → not (eqb q q) ≡ false
 own q = rw (eq-eqb q q refl)
 
-module _ (c q : ℕ) (hc : ltb c 76 ≡ true) (f : Field) (v : ℕ) (of : ok f ≡ true) (tf : aside q f ≡ true) where
+module _ (c q : ℕ) (hc : ltb c classRows ≡ true) (f : Field) (v : ℕ) (of : ok f ≡ true) (tf : aside q f ≡ true) where
   after : List ℕ → List ℕ
   after d = put d f v
 
@@ -162,7 +163,7 @@ writes q f = (eqb (region f) 2 && leb (off f) 4) || (leb 4 (region f) && not (as
 pub writes-own : (q : ℕ) → not (not (eqb q q)) ≡ true
 writes-own q = rw (eq-eqb q q refl)
 
-module _ (c q : ℕ) (hc : ltb c 76 ≡ true) where
+module _ (c q : ℕ) (hc : ltb c classRows ≡ true) where
   unlisted-writes : (b : List ℕ) → Changes (writes q) b (unlisted b c q)
   unfolding unlisted
   unlisted-writes b = by (eqb (get b (page listed q)) 1)

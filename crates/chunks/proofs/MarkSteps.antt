@@ -1,6 +1,7 @@
 -- Marking and taking by pages: the loops over the listed words and over the chunks' pages, and the ways out.
 use Rattle.facts.proofs.Prelude.{ℕ, suc, _+_, _-_, _*_, _^_, _≤_, _<_, arith, add-one, Bool, true, false, true≢false, List, [], _∷_, map, _≡_, refl, sym, ap, _∙_, ltb}
 use Rattle.facts.proofs.Prelude.{length, getD, drop, length-drop, drop-cons, drop-drop, lt-ltb, le-leb, ltb-true, every, distinct, and-left, and-right, drop-past, every-get}
+use Rattle.words.specs.Limits.{classRows}
 use Rattle.words.specs.Word.{pageOf}
 use Rattle.classes.specs.declared.Shape.{Shape}
 use Rattle.classes.specs.way.Sound.{Sound}
@@ -220,7 +221,7 @@ module _ (n : ℕ) (b : List ℕ) (c : ℕ) (sh : Shape) (m : ℕ) (ws gs : List
       matches = match-is n b c sh one ws gs (every-mono (outAt n b c sh) (inRunOf n b sh c) (λ w o. run-of-out n c sh sound b w o) ws (known .out)) ∙ page-match
 
       valid-same : chunksValid n b′ c sh gs ≡ chunksValid n b c sh gs
-      valid-same = rw (z .left) (chunks-valid-kept b (ownBook b sh ws) changes c (lt-ltb c 76 (a .matching .all .call .class .known)) n sh gs)
+      valid-same = rw (z .left) (chunks-valid-kept b (ownBook b sh ws) changes c (lt-ltb c classRows (a .matching .all .call .class .known)) n sh gs)
 
       passes : chunksValid n b c sh gs ≡ true → testFault n b c sh ws gs ≡ 0
       unfolding testFault passFault

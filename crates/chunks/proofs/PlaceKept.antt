@@ -9,6 +9,7 @@
 use Rattle.facts.proofs.Prelude.{ℕ, zero, suc, _+_, _≤_, _<_, arith, Bool, true, false, cond, _&&_, _||_, List, _⊎_, inl, inr, ⊎-elim, _≡_, refl, sym, _∙_, eqb, ltb, leb, length}
 use Rattle.facts.proofs.Prelude.{getD, set, getD-set-same, getD-set-other, set-out, leb-true, ltb-true, eqb-true, eqb-false, le-leb, lt-ltb, eq-eqb, ne-eqb, and-left, and-right}
 use native.Mathlib.Decide.{decLe}
+use Rattle.words.specs.Limits.{classRows}
 use Rattle.classes.specs.declared.Shape.{Shape}
 use Rattle.classes.specs.way.Sound.{Sound}
 use Rattle.rules.specs.Rules.{Fit}
@@ -152,7 +153,7 @@ count-tally : (k : Park) (c : ℕ) → isCount (class (stored k) c) ≡ true
 count-tally Empty c = refl
 count-tally Cold c = refl
 
-module _ (b : List ℕ) (c : ℕ) (hc : ltb c 76 ≡ true) where
+module _ (b : List ℕ) (c : ℕ) (hc : ltb c classRows ≡ true) where
   pub steady-none : Row b c → Steady b c b
   steady-none r = record { long = refl; low = refl; row = r; links = λ x h. h }
 
@@ -257,7 +258,7 @@ at-low b k zero v g m p l h = h
 at-low b k (suc x) v g m p l h = low-put b (page k x) g v m refl p l h
 
 -- ---- the class's lists
-module _ (b : List ℕ) (c : ℕ) (hc : ltb c 76 ≡ true) (q : ℕ) (hq : q < get b (arena frontier)) (there : words (q + 1) ≤ length b) (b′ : List ℕ) (s : Steady b c b′) where
+module _ (b : List ℕ) (c : ℕ) (hc : ltb c classRows ≡ true) (q : ℕ) (hq : q < get b (arena frontier)) (there : words (q + 1) ≤ length b) (b′ : List ℕ) (s : Steady b c b′) where
   there′ : leb (words (q + 1)) (length b′) ≡ true
   there′ = le-leb _ (length b′) (omega (arith, s .long))
 
@@ -322,7 +323,7 @@ module _ (b : List ℕ) (c : ℕ) (hc : ltb c 76 ≡ true) (q : ℕ) (hq : q < g
       put-count b c hc _ s₂ k (get b′ (class (stored k) c) + 1) (omega arith)
 
 -- ---- a page with none out
-module _ (b : List ℕ) (c : ℕ) (hc : ltb c 76 ≡ true) (q : ℕ) (hq : q < get b (arena frontier)) (there : words (q + 1) ≤ length b) (sh : Shape) (so : Sound sh) (h : ℕ) where
+module _ (b : List ℕ) (c : ℕ) (hc : ltb c classRows ≡ true) (q : ℕ) (hq : q < get b (arena frontier)) (there : words (q + 1) ≤ length b) (sh : Shape) (so : Sound sh) (h : ℕ) where
   as-steady : (b′ : List ℕ) → Steady b c b′ → (t : Destination) → (isEmpty t ≡ true → get b′ (class (stored Empty) c) < maxParked) → (isCold t ≡ true → get b′ (class (stored Cold) c) < maxParked)
       → Steady b c (parkedIn b′ c sh h q t)
   as-steady b′ s ToEmpty e k = park-run-steady b c hc q hq there b′ s Empty (e refl)
@@ -335,7 +336,7 @@ module _ (b : List ℕ) (c : ℕ) (hc : ltb c 76 ≡ true) (q : ℕ) (hq : q < g
   park-steady : Ties b q → (b′ : List ℕ) → Steady b c b′ → Steady b c (parkAt b′ c sh h q .book)
   unfolding parkAt
   park-steady t b′ s =
-      let m = unlisted-changes b′ c q (ltb-true c 76 hc) in
+      let m = unlisted-changes b′ c q (ltb-true c classRows hc) in
       as-steady (unlisted b′ c q) (unlisted-steady b c hc q hq there b′ s t) (destinationAt b′ c sh)
       (λ e. rw (m .kept (class (stored Empty) c) hc refl) (omega (arith, empty-room sh _ _ _ e, s .row .limits .empty)))
       (λ e. rw (m .kept (class (stored Cold) c) hc refl) (omega (arith, cold-room sh _ _ _ e, s .row .limits .cold)))

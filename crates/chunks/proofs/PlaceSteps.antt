@@ -4,6 +4,7 @@ use Rattle.facts.proofs.Prelude.{refl, sym, ap, _∙_, ltb, leb, length, getD, 
 use Rattle.facts.proofs.Prelude.{drop-length, take-suc-set, drop-set-lt, leb-true, lt-ltb, ltb-true, eq-eqb, ne-eqb, every, and-left, and-right}
 use mir.Val.{Fits}
 use mir.Syntax.{w32}
+use Rattle.words.specs.Limits.{classRows}
 use Rattle.words.specs.Word.{pageOf}
 use Rattle.classes.specs.declared.Shape.{Shape}
 use Rattle.fields.specs.Field.{arena, page, frontier, free, carved, virgin, words, get, put}
@@ -33,12 +34,12 @@ module _ (b : List ℕ) (c : ℕ) (sh : Shape) (h q : ℕ) where
 module _ (b : List ℕ) (c : ℕ) (sh : Shape) (h q : ℕ) (b₁ : List ℕ) (e : b₁ ≡ put b (page virgin q) 0) where
   virgin-pre : ParkingPre b c sh q → ParkingPre b₁ c sh q
   virgin-pre a =
-      let hc = lt-ltb c 76 (a .known) in
+      let hc = lt-ltb c classRows (a .known) in
       rw e (pre-kept b c sh q a _ (virgin-steady b c hc b (steady-none b c hc (row-out b c (a .row))) q))
 
   pub place-pre : ParkingPre b c sh q → (b₂ : List ℕ) → b₂ ≡ emptied b₁ q → ParkingPre b₂ c sh q
   place-pre a b₂ k =
-      let hc = lt-ltb c 76 (a .known) in
+      let hc = lt-ltb c classRows (a .known) in
       let a₁ = virgin-pre a in
       rw k (pre-kept b₁ c sh q a₁ _ (emptied-steady b₁ c hc b₁ (steady-none b₁ c hc (row-out b₁ c (a₁ .row))) q))
 
@@ -86,7 +87,7 @@ every-at P (x ∷ xs) (suc i) l e = every-at P xs i (omega arith) (and-right (P 
 
 module _ (b : List ℕ) (c : ℕ) (sh : Shape) (h : ℕ) (gs fs : List ℕ) (a : PlacePre b c sh gs fs) where
   pub place-starts : PlaceInv b c sh h gs fs b fs 0
-  place-starts = record { within = omega arith; size = refl; steady = steady-none b c (lt-ltb c 76 (a .known)) (row-out b c (a .row)); left = refl; fates = refl }
+  place-starts = record { within = omega arith; size = refl; steady = steady-none b c (lt-ltb c classRows (a .known)) (row-out b c (a .row)); left = refl; fates = refl }
 
   valid-at : (i : ℕ) → i < length gs → placeValid b (pageOf (getD gs i 0)) ≡ true
   valid-at i l = every-at (λ g. placeValid b (pageOf g)) gs i l (a .pages)
@@ -126,7 +127,7 @@ module _ (b : List ℕ) (c : ℕ) (sh : Shape) (h : ℕ) (gs fs : List ℕ) (a :
         record {
           within = omega arith;
           size = length-set fs′ i r ∙ v .size;
-          steady = rw (p .left) (placed-steady b c (lt-ltb c 76 (a .known)) q low there sh (a .sound) h (ties-out b q links) b′ (v .steady));
+          steady = rw (p .left) (placed-steady b c (lt-ltb c classRows (a .known)) q low there sh (a .sound) h (ties-out b q links) b′ (v .steady));
           left = sym (next-book c sh h b′ b″ (drop i gs) (drop (i + 1) gs) (getD gs i 0) q r d e p) ∙ v .left;
           fates = one-more fs′ _ _ _ (length gs) i r l (omega (arith, v .size, a .room)) (next-fates c sh h b′ b″ (drop i gs) (drop (i + 1) gs) (getD gs i 0) q r d e p) (v .fates);
         }

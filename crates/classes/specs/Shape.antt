@@ -26,7 +26,7 @@ smallShape size = smallOf (size / granuleBytes) (smallCapacity size) (inverse (s
 unfoldable pub mediumShape : ℕ → Shape
 mediumShape size = mediumOf (size / granuleBytes) (spanPages size) (spanCapacity size) (inverse (size / granuleBytes))
 
--- 0 to 63 and 64 to 75
+-- the classes that a caller can name: 0 to 63 and 64 to 75. The rows of a book are `classRows`
 abbrev pub classCount : ℕ
 classCount = 76
 

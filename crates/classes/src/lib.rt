@@ -13,6 +13,7 @@ pub use lookup::size_class;
 pub use medium_lut::medium_classes;
 pub use runs::shape_of;
 pub use sizes::CLASS_COUNT;
+pub use sizes::CLASS_ROWS;
 pub use sizes::NUM_CLASSES;
 pub use sizes::NUM_MEDIUM;
 pub use sizes::block_bytes;

@@ -17,8 +17,11 @@ pub const NUM_CLASSES: u32 = 64;
 
 pub const NUM_MEDIUM: u32 = 12;
 
-// Small and medium classes by one number.
+// The classes that a caller can name, small and medium by one number.
 pub const CLASS_COUNT: u32 = 76;
+
+// The class rows of a book.
+pub const CLASS_ROWS: u32 = 76;
 
 const CLASSES: [u16; 64] = [
     16,

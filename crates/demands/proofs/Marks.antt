@@ -6,6 +6,7 @@ use Rattle.facts.proofs.Prelude.{[], _∷_, map, _⊎_, inl, inr, ⊎-elim, Opt
 use Rattle.facts.proofs.Prelude.{drop, getD, set, getD-set-other, ltb-true, ltb-false, leb-true, leb-false, le-leb, lt-ltb, eqb-true, eqb-false, eq-eqb}
 use Rattle.facts.proofs.Prelude.{ne-eqb, not-true, not-false, isNil, All, every, filter, elem, distinct, by-cases, and-left, and-right, nor-left, nor-right}
 use Rattle.words.specs.Host.{badHost}
+use Rattle.words.specs.Limits.{classRows}
 use Rattle.words.specs.Word.{granuleOf, chunkKind, pageOf, countOf}
 use Rattle.classes.specs.declared.Shape.{Shape}
 use Rattle.classes.specs.Shape.{shapeOf}
@@ -167,7 +168,7 @@ module _ (n : ℕ) (b : List ℕ) where
       (λ e. rw e (changes-none notMark b))
 
 -- ---- the pages
-module _ (b : List ℕ) (c q : ℕ) (hc : ltb c 76 ≡ true) where
+module _ (b : List ℕ) (c q : ℕ) (hc : ltb c classRows ≡ true) where
   link-keeps : Keeps b (link b c q)
   link-keeps = changes-link notMark b c q hc refl refl refl refl (λ x e. refl)
 
@@ -195,7 +196,7 @@ clears-none : (b : List ℕ) → Clears b b
 clears-none b = keeps-clears (changes-none notMark b)
 
 module _ (n : ℕ) (few : n ≤ maxPages) (c : ℕ) (sh : Shape) (sd : Sound sh) where
-  fill-keeps : (hc : ltb c 76 ≡ true) (k m : ℕ) (b : List ℕ) → leb (words n) (length b) ≡ true → get b (arena frontier) ≤ n → walk n b c sh k m (get b (class partial c)) 0 ≡ true
+  fill-keeps : (hc : ltb c classRows ≡ true) (k m : ℕ) (b : List ℕ) → leb (words n) (length b) ≡ true → get b (arena frontier) ≤ n → walk n b c sh k m (get b (class partial c)) 0 ≡ true
       → Keeps b (fillFrom b c sh k m .book)
   unfolding fillFrom unlistSpent
   fill-keeps hc zero m b hb bound w = changes-none notMark b
@@ -213,12 +214,12 @@ module _ (n : ℕ) (few : n ≤ maxPages) (c : ℕ) (sh : Shape) (sd : Sound sh)
       (changes-trans notMark b d (unlistSpent d c sh q) (draw-changes b sh q m low notMark refl refl (λ i. refl)) (spent-keeps d c q hc sh))
       (fill-keeps hc k (m - length (latest b sh q m)) (unlistSpent d c sh q) (rw (t .long) hb) (rw (t .frontier) bound) (t .walks))))
     where
-      spent-keeps : (d : List ℕ) (c q : ℕ) (hc : ltb c 76 ≡ true) (sh : Shape) → Keeps d (unlistSpent d c sh q)
+      spent-keeps : (d : List ℕ) (c q : ℕ) (hc : ltb c classRows ≡ true) (sh : Shape) → Keeps d (unlistSpent d c sh q)
       spent-keeps d c q hc sh = by-cases (hasMore d sh q) (λ e. rw e (changes-none notMark d)) (λ e. rw e (unlink-keeps d c q hc))
 
   module _ (l : List ℕ) where
     filled-clears : (b : List ℕ) → TakePre n b c sh → walksFrom n b c sh ≡ true → Clears b (filled b c sh l .book)
-    filled-clears b a w = keeps-clears (fill-keeps (lt-ltb c 76 (a .known)) (sh .batch) (sh .batch) b (le-leb (words n) (length b) (a .long)) (a .bound) w)
+    filled-clears b a w = keeps-clears (fill-keeps (lt-ltb c classRows (a .known)) (sh .batch) (sh .batch) b (le-leb (words n) (length b) (a .long)) (a .bound) w)
 
     module _ (b : List ℕ) (a : TakePre n b c sh) where
       partial-clears : Clears b (fromPartial n b c sh l .book)
@@ -229,7 +230,7 @@ module _ (n : ℕ) (few : n ≤ maxPages) (c : ℕ) (sh : Shape) (sd : Sound sh)
         park-clears : (k : Park) → (get b (class (top k) c) ≡ 0 → ⊥) → Clears b (fromPark n b c sh k l .book)
         unfolding fromPark
         park-clears k full =
-            let hc = lt-ltb c 76 (a .known) in
+            let hc = lt-ltb c classRows (a .known) in
             let q = get b (class (top k) c) - 1 in
             let p : ParkedPre n b c sh k = record { pre = a; alone = alone; some = positive (get b (class (top k) c)) full } in
             clears-cond b (parkValid n b c sh k) (filled (unparked b c k) c sh l) (tookNone b l 13)
@@ -242,7 +243,7 @@ module _ (n : ℕ) (few : n ≤ maxPages) (c : ℕ) (sh : Shape) (sd : Sound sh)
         run-clears h none e = keeps-clears (commit-keeps n b h (sh .pages) (suc c))
         run-clears h (some q) e =
             let d = commitFor n b h (sh .pages) (suc c) .book in
-            let hc = lt-ltb c 76 (a .known) in
+            let hc = lt-ltb c classRows (a .known) in
             let g = commit-granted n b (le-leb (words n) (length b) (a .long)) (sh .pages) (suc c) h q e in
             let r : TakeRunPre d c sh q = record {
               pages = n;
@@ -263,7 +264,7 @@ module _ (n : ℕ) (few : n ≤ maxPages) (c : ℕ) (sh : Shape) (sd : Sound sh)
             let g = commitFor n b h (sh .pages) (suc c) in
             clears-cond b (eqb (g .code) 0) (onRun (g .book) c sh l (g .run)) (tookNone b l (g .code)) (λ e. run-clears h (g .run) refl) (λ e. clears-none b)
 
-    blocks-clear : (b : List ℕ) (h : ℕ) → c < 76 → words n ≤ length b → Clears b (takeBlocks n b c sh h l .book)
+    blocks-clear : (b : List ℕ) (h : ℕ) → c < classRows → words n ≤ length b → Clears b (takeBlocks n b c sh h l .book)
     unfolding takeBlocks
     blocks-clear b h known long =
         clears-cond b (ltb n (get b (arena frontier))) (tookNone b l 13) _ (λ e. clears-none b) (λ e.
@@ -273,7 +274,7 @@ module _ (n : ℕ) (few : n ≤ maxPages) (c : ℕ) (sh : Shape) (sd : Sound sh)
         clears-cond b (not (eqb (get b (class empty c)) 0)) (fromPark n b c sh Empty l) _ (λ v. park-clears b a alone Empty (eqb-false (get b (class empty c)) 0 (not-true _ v))) (λ v.
         clears-cond b (not (eqb (get b (class cold c)) 0)) (fromPark n b c sh Cold l) (takeNew n b c sh h l) (λ x. park-clears b a alone Cold (eqb-false (get b (class cold c)) 0 (not-true _ x))) (λ x. new-run-clears b a alone h))))
 
-  take-clears : (b : List ℕ) (h : ℕ) (l : List ℕ) → c < 76 → words n ≤ length b → Clears b (takeCall n b c sh h l .book)
+  take-clears : (b : List ℕ) (h : ℕ) (l : List ℕ) → c < classRows → words n ≤ length b → Clears b (takeCall n b c sh h l .book)
   unfolding takeCall
   take-clears b h l known long = clears-cond b (ltb (length l) (sh .batch)) (tookNone b l 5) (takeBlocks n b c sh h l) (λ e. clears-none b) (λ e. blocks-clear l b h known long)
 
@@ -309,7 +310,7 @@ lets-pages c q = record { rows = λ k. refl; nexts = λ x. refl; prevs = λ x. r
 lets-free : (c q x : ℕ) → eqb q x ≡ false → Lets (offFree x) c q
 lets-free c q x e = record { rows = λ k. refl; nexts = λ x. refl; prevs = λ x. refl; listed = refl; free = rw e; carved = refl; virgin = refl; outs = λ i. refl; slots = λ i. refl }
 
-module _ (t : Field → Bool) (c q : ℕ) (hc : ltb c 76 ≡ true) (ls : Lets t c q) (sh : Shape) (few : sh .capacity ≤ 4096) (h : ℕ) where
+module _ (t : Field → Bool) (c q : ℕ) (hc : ltb c classRows ≡ true) (ls : Lets t c q) (sh : Shape) (few : sh .capacity ≤ 4096) (h : ℕ) where
   relist-changes : (b : List ℕ) → Changes t b (relisted b c q)
   unfolding relisted
   relist-changes b =
@@ -409,7 +410,7 @@ module _ (n : ℕ) where
 blocks-fine : Shape → List ℕ → ℕ → Bool
 blocks-fine sh b w = isBlock sh (startOf b w) w
 
-module _ (c : ℕ) (hc : ltb c 76 ≡ true) (sh : Shape) (few : sh .capacity ≤ 4096) (h : ℕ) (ws : List ℕ) (b₀ : List ℕ) (fine : every (blocks-fine sh b₀) ws ≡ true) where
+module _ (c : ℕ) (hc : ltb c classRows ≡ true) (sh : Shape) (few : sh .capacity ≤ 4096) (h : ℕ) (ws : List ℕ) (b₀ : List ℕ) (fine : every (blocks-fine sh b₀) ws ≡ true) where
   -- the listed blocks of a run have places there
   on-small : (b : List ℕ) → ((x : ℕ) → get b (page first x) ≡ get b₀ (page first x)) → (q : ℕ) (vs : List ℕ) → every (blocks-fine sh b₀) vs ≡ true
       → every small (map (indexOf sh q) (filter (λ w. eqb (startOf b w) q) vs)) ≡ true
@@ -475,7 +476,7 @@ module _ (n : ℕ) (b : List ℕ) (c : ℕ) (sh : Shape) (few : sh .capacity ≤
       omega (arith, leb-true (get b (page Fields.carved q)) (sh .capacity) (and-left _ _ p), leb-true (get b (page Fields.free q) + m) (get b (page Fields.carved q)) (and-left _ _ r))
 
 -- ---- the releases
-module _ (n : ℕ) (small-arena : n ≤ maxPages) (b : List ℕ) (hb : leb (words n) (length b) ≡ true) (c : ℕ) (hc : ltb c 76 ≡ true) (sh : Shape) (sd : Sound sh) (h : ℕ) where
+module _ (n : ℕ) (small-arena : n ≤ maxPages) (b : List ℕ) (hb : leb (words n) (length b) ≡ true) (c : ℕ) (hc : ltb c classRows ≡ true) (sh : Shape) (sd : Sound sh) (h : ℕ) where
   few : sh .capacity ≤ 4096
   few = sd .few
 
@@ -563,7 +564,7 @@ module _ (n : ℕ) (small-arena : n ≤ maxPages) (b : List ℕ) (hb : leb (word
       → (let s = settleChunks b c sh h ws gs in givesValid n (s .book) (length (s .gives) * sh .pages) ≡ true)
   gives-tested one ws gs fs e o m f =
       let a : PassPre n b c sh ws gs = record {
-        call = record { class = record { known = ltb-true c 76 hc; sound = sd; few = small-arena; long = leb-true (words n) (length b) hb }; single = one };
+        call = record { class = record { known = ltb-true c classRows hc; sound = sd; few = small-arena; long = leb-true (words n) (length b) hb }; single = one };
         out = o;
         chunks = ltb-false chunksMax (length gs) (nor-left (ltb chunksMax (length gs)) _ e);
       } in
@@ -640,7 +641,7 @@ named b h many c e =
     let s = sound b (metaFault b) refl (z .0) in
     record { few = leb-true (get b (arena size)) maxPages (and-right (leb 1 (get b (arena size))) _ (s .sized)); long = s .long; below = leb-false many c (z .1) }
 
-module _ (low many : ℕ) (top76 : low + many ≤ 76) (b : List ℕ) (c h : ℕ) where
+module _ (low many : ℕ) (top76 : low + many ≤ classRows) (b : List ℕ) (c h : ℕ) where
   take-leaves : (l : List ℕ) → Clears b (takeOn low many b c h l .book)
   unfolding takeOn
   take-leaves l =
@@ -654,14 +655,14 @@ module _ (low many : ℕ) (top76 : low + many ≤ 76) (b : List ℕ) (c h : ℕ)
   list-leaves ws =
       by-cases (eqb (classFault b h many c) 0)
       (λ e. let m = named b h many c e in
-      rw e (list-keeps (get b (arena size)) (m .few) b (m .long) (low + c) (lt-ltb (low + c) 76 (let z = m .below in omega arith)) (shapeOf (low + c)) (shape-sound (low + c)) h ws))
+      rw e (list-keeps (get b (arena size)) (m .few) b (m .long) (low + c) (lt-ltb (low + c) classRows (let z = m .below in omega arith)) (shapeOf (low + c)) (shape-sound (low + c)) h ws))
       (λ e. rw e (changes-none notMark b))
 
 group-leaves : (b : List ℕ) (c h : ℕ) (ws gs fs : List ℕ) → Keeps b (chunksOn b c h ws gs fs .book)
 unfolding chunksOn
 group-leaves b c h ws gs fs =
     by-cases (eqb (classFault b h 64 c) 0)
-    (λ e. let m = named b h 64 c e in rw e (chunks-keep (get b (arena size)) (m .few) b (m .long) c (lt-ltb c 76 (let z = m .below in omega arith)) (shapeOf c) (shape-sound c) h (small-paged c (m .below)) ws gs fs))
+    (λ e. let m = named b h 64 c e in rw e (chunks-keep (get b (arena size)) (m .few) b (m .long) c (lt-ltb c classRows (let z = m .below in omega arith)) (shapeOf c) (shape-sound c) h (small-paged c (m .below)) ws gs fs))
     (λ e. rw e (changes-none notMark b))
 
 kept-at : {b b′ : List ℕ} → Keeps b b′ → (p j : ℕ) → j < 128 → get b′ (mark p j) ≡ get b (mark p j)
@@ -716,7 +717,7 @@ module _ (n : ℕ) (rows b : List ℕ) where
   unfolding opened headWords get
   opened-leaves p j l =
       let o = lt-ltb j 128 l in
-      ruled-changes (put (Open.cleared b 768) (arena size) n) (rulesOf rows) 76 (omega arith) .kept (mark p j) o refl
+      ruled-changes (put (Open.cleared b 768) (arena size) n) (rulesOf rows) classRows (omega arith) .kept (mark p j) o refl
       ∙ get-put-other (Open.cleared b 768) (arena size) (mark p j) n refl o refl
       ∙ cleared-past b 768 (40144 + 4112 * p + j) (omega arith)
 

@@ -2,6 +2,7 @@
 -- ever has more runs parked than they allow.
 use Rattle.facts.proofs.Prelude.{ℕ, suc, _*_, _≤_, _<_, arith, Bool, true, false, cond, _&&_, false≢true, List, [], _∷_, Option, none, some, _≡_, refl, sym}
 use Rattle.facts.proofs.Prelude.{ap, _∙_, subst, leb, ltb, length, ltb-true, leb-true, le-leb, lt-ltb, le-ltb, isNil, every, by-cases, and-left, and-right}
+use Rattle.words.specs.Limits.{classRows}
 use Rattle.words.specs.Word.{pageOf}
 use Rattle.classes.specs.declared.Shape.{Shape}
 use Rattle.classes.specs.Shape.{shapeOf, smallShape, mediumShape}
@@ -198,7 +199,7 @@ parking s o =
       rows-cover = rows-cover rows r;
       no-rows = nil-rules rows;
       fit = rules-fit rows r;
-      stand = λ xs c h. represents s o xs .rules c (lt-ltb c 76 h) .same ∙ rw (rules-after (pages s) (rules s) (calls s xs));
+      stand = λ xs c h. represents s o xs .rules c (lt-ltb c classRows h) .same ∙ rw (rules-after (pages s) (rules s) (calls s xs));
       within = λ xs. within-after (pages s) (rules s) (calls s xs);
       kept = λ c e k h. small-goes c (rules s c) e k (rules-fit rows r c) h;
       keptSpans = λ c e k h. medium-goes c (rules s c) e k h;

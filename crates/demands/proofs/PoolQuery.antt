@@ -74,7 +74,7 @@ granted-class b c w g =
     let fit = and-left (eqb (metaFault b) 0 && ltb c classCount) _ g in
     let out = and-left (outAt n b c (shapeOf c) w) _ (and-right (ofKind (shapeOf c .kind) w) _ (and-right (eqb (metaFault b) 0 && ltb c classCount) _ g)) in
     let low = ltb-true c classCount (and-right (eqb (metaFault b) 0) _ fit) in
-    rw (and-left (eqb (metaFault b) 0) _ fit, owner-class n b c w out, le-leb 1 (suc c) (omega arith), le-leb (suc c) 76 (omega arith)) (omega arith)
+    rw (and-left (eqb (metaFault b) 0) _ fit, owner-class n b c w out, le-leb 1 (suc c) (omega arith), le-leb (suc c) classCount (omega arith)) (omega arith)
 
 -- ---- a book that stands for a pool
 module _ (n : ℕ) (b : List ℕ) (c : ℕ) (st : List ℕ) (r : StockRep n b c st) where

@@ -338,7 +338,7 @@ module _ (b : List ℕ) (w : ℕ) where
   unfolding classOn
   class-low =
       by-cases (eqb (metaFault b) 0)
-      (λ e. by-cases (known k) (λ t. rw (e, t) (omega (arith, leb-true k 76 (and-right (leb 1 k) _ t)))) (λ t. rw (e, t) (omega arith)))
+      (λ e. by-cases (known k) (λ t. rw (e, t) (omega (arith, leb-true k classCount (and-right (leb 1 k) _ t)))) (λ t. rw (e, t) (omega arith)))
       (λ e. rw e (omega arith))
 
   book-first : cond (eqb (metaFault b) 0) 0 (metaFault b) ≡ firstNumber (bookTable b)
@@ -361,10 +361,10 @@ module _ (b : List ℕ) (w : ℕ) where
               ltb-true (pageAt w) n t,
               by-cases (known o)
                   (λ u. let y : o - 1 ≡ c = rw (fit, t, u) at z in omega (arith, leb-true 1 o (and-left (leb 1 o) _ u)))
-                  (λ u. let y : 76 ≡ c = rw (fit, t, u) at z in absurd (omega arith)),
+                  (λ u. let y : classCount ≡ c = rw (fit, t, u) at z in absurd (omega arith)),
             ))
-            (λ t. let y : 76 ≡ c = rw (fit, t) at z in absurd (omega arith))),
-        (λ p. rw (fit, lt-ltb (pageAt w) n (p .0), p .1, le-leb 1 (suc c) (omega arith), le-leb (suc c) 76 (omega arith)) (omega arith)),
+            (λ t. let y : classCount ≡ c = rw (fit, t) at z in absurd (omega arith))),
+        (λ p. rw (fit, lt-ltb (pageAt w) n (p .0), p .1, le-leb 1 (suc c) (omega arith), le-leb (suc c) classCount (omega arith)) (omega arith)),
       )
 
 -- ---- the demand

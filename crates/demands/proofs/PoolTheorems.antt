@@ -17,6 +17,7 @@ use Rattle.model.proofs.Ways.{goes}
 use Rattle.model.proofs.Theorems.{outs}
 use Rattle.model.proofs.Alone.{other}
 use Rattle.calls.specs.Out.{outAt}
+use Rattle.refinement.proofs.ArenaHolders.{row-known}
 use Rattle.refinement.specs.way.Represents.{Represents}
 use Rattle.refinement.specs.Direct.{Reply}
 use Rattle.refinement.specs.Run.{callReply, repliesFrom, answersIn}
@@ -201,7 +202,7 @@ module _ (n : ℕ) (rows b : List ℕ) (o : Opens n rows b) (xs : List PoolCall)
 
   -- the heap's test of a block
   out-test : (c w : ℕ) → ltb c classCount ≡ true → ofKind (shapeOf c .kind) w ≡ true → outAt n d c (shapeOf c) w ≡ outHere (shapeOf c) (P .heap .classes c) w
-  out-test c w hc k = out-here (setting-of n d (P .heap) (rep .heap) c hc) few (P .heap .classes c) (rep .heap .classes c hc) w k
+  out-test c w hc k = out-here (setting-of n d (P .heap) (rep .heap) c (row-known c hc)) few (P .heap .classes c) (rep .heap .classes c (row-known c hc)) w k
 
   -- ---- what the reading calls tell
   admitted : (c : ℕ) → ltb c classCount ≡ true → admits d c ≡ true
@@ -305,9 +306,9 @@ module _ (n : ℕ) (rows b : List ℕ) (o : Opens n rows b) (xs : List PoolCall)
       let s : StockRep n d′ c (P .stock c) = stock-still n d d′ c (P .stock c) hc (frame y) (rep .stocks c hc) in
       let R : Represents n d′ (step n H y .heap) = subst (λ (r : Reply). Represents n (r .book) (step n H y .heap)) (sym (call-reply y)) (call-whole n few (rulesOf rows) made d heap y .heap) in (
         s .same ∙ sym (stock-is c hc),
-        (λ w k. out-here (setting-of n d′ (step n H y .heap) R c hc) few (step n H y .heap .classes c) (R .classes c hc) w k
+        (λ w k. out-here (setting-of n d′ (step n H y .heap) R c (row-known c hc)) few (step n H y .heap .classes c) (R .classes c (row-known c hc)) w k
             ∙ ap (λ t. outHere (shapeOf c) t w) (class-kept y p e c ne)
-            ∙ sym (out-here (setting-of n d H heap c hc) few (H .classes c) (heap .classes c hc) w k)),
+            ∙ sym (out-here (setting-of n d H heap c (row-known c hc)) few (H .classes c) (heap .classes c (row-known c hc)) w k)),
       )
 
   part-is : (ys : List Call) → answersIn (repliesFrom call d ys) ≡ answersIn (repliesFrom call (bookAfter n rows b made) ys)

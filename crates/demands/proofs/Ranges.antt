@@ -2,9 +2,9 @@
 use Rattle.facts.proofs.Prelude.{ℕ, zero, suc, _+_, _-_, _/_, _≤_, min, arith, add-zero, Bool, true, false, cond, not, _&&_, _||_, and-true}
 use Rattle.facts.proofs.Prelude.{and-false, and-assoc, and-comm, List, [], _∷_, _++_, map, _≡_, refl, sym, ap, _∙_, eqb, ltb, leb, length, leb-true}
 use Rattle.facts.proofs.Prelude.{le-leb, lt-leb, ltb-true, ltb-false, eqb-true, eqb-false, eq-eqb, ne-eqb, every, below, by-cases, and-swap}
+use Rattle.words.specs.Limits.{classRows}
 use Rattle.words.specs.Word.{countOf, pageOf}
 use Rattle.classes.specs.declared.Shape.{Shape}
-use Rattle.classes.specs.Shape.{classCount}
 use Rattle.fields.specs.Field.{arena, class, hole, page, size, frontier, holes, holePages, held, start, pages, partial, empty, cold, free, carved, listed, get}
 use Rattle.fields.specs.Ranges.{maxParked}
 use Rattle.model.specs.Destination.{isArena}
@@ -101,7 +101,7 @@ module _ (b : List ℕ) where
 
   report-ranges : reportValid (get b (arena size)) b ≡ fits b reportReads
   unfolding reportValid allCountsValid reportReads
-  report-ranges = rw (record-ranges, parked-ranges (below classCount), fits-append)
+  report-ranges = rw (record-ranges, parked-ranges (below classRows), fits-append)
 
 -- ---- marks
 module _ (b : List ℕ) (c : ℕ) (sh : Shape) where

@@ -5,6 +5,7 @@
 use Rattle.facts.proofs.Prelude.{ℕ, _+_, arith, Bool, true, false, cond, not, _&&_, _||_, true≢false, false≢true, List, [], _∷_, _++_, _↔_, _≡_}
 use Rattle.facts.proofs.Prelude.{refl, sym, ap, _∙_, eqb, leb, lt-ltb, not-true, isNil, filter, every, distinct, by-cases, and-left, and-right}
 use Rattle.words.specs.Host.{badHost}
+use Rattle.words.specs.Limits.{classRows}
 use Rattle.words.specs.Word.{chunkKind}
 use Rattle.classes.specs.declared.Shape.{Shape}
 use Rattle.classes.specs.Shape.{shapeOf}
@@ -293,4 +294,4 @@ marks-aside = record {
 -- ---- the marks
 pub run-unmarked : Unmarked
 run-unmarked s o xs c q l w j m =
-    OutTests.run-unmarked (heapAfter (pages s) (rules s) (calls s xs) .classes c) (represents s o xs .classes c (lt-ltb c 76 l)) q w j m
+    OutTests.run-unmarked (heapAfter (pages s) (rules s) (calls s xs) .classes c) (represents s o xs .classes c (lt-ltb c classRows l)) q w j m

@@ -3,9 +3,9 @@
 use Rattle.facts.proofs.Prelude.{ℕ, zero, suc, _+_, _-_, _/_, Bool, true, false, cond, not, _&&_, _||_, List, []}
 use Rattle.facts.proofs.Prelude.{_∷_, _++_, map, _≡_, refl, sym, ap, _∙_, subst, eqb, every, All, below, by-cases}
 use Rattle.words.specs.Host.{digit}
+use Rattle.words.specs.Limits.{classRows}
 use Rattle.words.specs.Word.{countOf, pageOf}
 use Rattle.classes.specs.declared.Shape.{Shape}
-use Rattle.classes.specs.Shape.{classCount}
 use Rattle.fields.specs.Field.{arena, class, page, size, frontier, holes, holePages, held, pages, partial, empty, emptyCount, cold, coldCount, free, carved, listed, get}
 use Rattle.rules.specs.declared.Limits.{Limits}
 use Rattle.model.specs.Destination.{destinationOf, isEmpty, isCold, isArena}
@@ -70,8 +70,8 @@ module _ (b b′ : List ℕ) where
     report-same : Same reportReads → reportValid n b ≡ reportValid n b′
     unfolding reportValid allCountsValid reportReads
     report-same h =
-        let cs = parkedReads (below classCount) in
-        rw (record-same (left recordReads cs h), parked-same (below classCount) (right recordReads cs h))
+        let cs = parkedReads (below classRows) in
+        rw (record-same (left recordReads cs h), parked-same (below classRows) (right recordReads cs h))
 
     holes-same : (total f i k : ℕ) → Same (holeReads i k) → every (holeValid total f) (loadHoles b i k) ≡ every (holeValid total f) (loadHoles b′ i k)
     unfolding loadHoles holeReads

@@ -4,6 +4,7 @@
 use Rattle.facts.proofs.Prelude.{ℕ, zero, suc, _+_, _/_, _%_, _^_, _≤_, arith, true, List, [], _∷_, _⊎_, inl, inr, _≡_, refl, sym, _∙_, eqb, ltb}
 use Rattle.facts.proofs.Prelude.{length, eq-eqb, ne-eqb, eqb-true, eqb-false, lt-ltb, le-ltb, ltb-true, ltb-false, not-true, total, by-cases}
 use lib.ListN as ListN
+use Rattle.classes.specs.Shape.{classCount}
 use Rattle.trace.specs.Trace.{Reach, Room, Say, take, back, report, wrong, sayOf, max, bytesOf, outAt, offered, does, stops, after, reachFrom, atOpening}
 use Rattle.demands.specs.Trace.{Highest, Reason, noKind, otherBits, noClass, notOut, noBlocks, noFigures}
 
@@ -19,18 +20,18 @@ module _ (n : ℕ) (m : Room) (r : Reach) (w : ℕ) where
   unfolding sayOf
   reason-stops (noKind k) = rw (ne-eqb kind 0 (omega arith), ne-eqb kind 1 (omega arith), ne-eqb kind 2 (omega arith))
   reason-stops (otherBits k z) = rw (ne-eqb kind 0 (omega (arith, k)), ne-eqb kind 1 (omega (arith, k)), eq-eqb kind 2 k, ne-eqb number 0 z)
-  reason-stops (noClass k l) = rw (eq-eqb kind 0 k, le-ltb number 76 (omega arith))
+  reason-stops (noClass k l) = rw (eq-eqb kind 0 k, le-ltb number classCount (omega arith))
   reason-stops (notOut k e) = rw (ne-eqb kind 0 (omega (arith, k)), eq-eqb kind 1 k, e)
-  reason-stops (noBlocks k l h) = rw (eq-eqb kind 0 k, lt-ltb number 76 (omega arith)) (lt-ltb (m .blocks) (length (r .handed) + length (offered n r number)) h)
+  reason-stops (noBlocks k l h) = rw (eq-eqb kind 0 k, lt-ltb number classCount (omega arith)) (lt-ltb (m .blocks) (length (r .handed) + length (offered n r number)) h)
   reason-stops (noFigures k z h) = rw (ne-eqb kind 0 (omega (arith, k)), ne-eqb kind 1 (omega (arith, k)), eq-eqb kind 2 k, eq-eqb number 0 z) (lt-ltb (m .figures) (length (r .figures) + 5) h)
 
   pub stops-reason : stops n m r w ≡ true → Reason n m r w
   unfolding sayOf
   stops-reason e =
       by-cases (eqb kind 0)
-      (λ k. by-cases (ltb number 76)
-      (λ l. noBlocks (eqb-true kind 0 k) (omega (arith, ltb-true number 76 l)) (ltb-true (m .blocks) (length (r .handed) + length (offered n r number)) (rw (k, l) at e)))
-      (λ l. noClass (eqb-true kind 0 k) (omega (arith, ltb-false number 76 l))))
+      (λ k. by-cases (ltb number classCount)
+      (λ l. noBlocks (eqb-true kind 0 k) (omega (arith, ltb-true number classCount l)) (ltb-true (m .blocks) (length (r .handed) + length (offered n r number)) (rw (k, l) at e)))
+      (λ l. noClass (eqb-true kind 0 k) (omega (arith, ltb-false number classCount l))))
       (λ k. by-cases (eqb kind 1)
       (λ k₁. notOut (eqb-true kind 1 k₁) (not-true (outAt number (r .handed)) (rw (k, k₁) at e)))
       (λ k₁. by-cases (eqb kind 2)

@@ -7,7 +7,7 @@ use Rattle.facts.proofs.Prelude.{_∙_, eqb, ltb, length, length-take-le, eqb-t
 use Rattle.words.specs.Host.{hostMax}
 use Rattle.classes.specs.declared.Shape.{Shape}
 use Rattle.classes.specs.Sizes.{pageBytes}
-use Rattle.classes.specs.Shape.{shapeOf}
+use Rattle.classes.specs.Shape.{shapeOf, classCount}
 use Rattle.classes.proofs.Shapes.{shape-sound}
 use Rattle.rules.specs.declared.Limits.{Limits}
 use Rattle.rules.specs.Rules.{rulesOf}
@@ -57,11 +57,11 @@ book-next : (n : ℕ) (b : List ℕ) (xs : List Call) (x : Call) → bookAfter n
 book-next n b xs x = book-split (openOn b n [] .book) xs (x ∷ [])
 
 -- ---- the class that a call of a trace names
-medium-id : (c : ℕ) → ltb c 76 ≡ true → ltb c 64 ≡ false → 64 + (c - 64) ≡ c
+medium-id : (c : ℕ) → ltb c classCount ≡ true → ltb c 64 ≡ false → 64 + (c - 64) ≡ c
 medium-id c h e = omega (arith, ltb-false c 64 e)
 
-medium-few : (c : ℕ) → ltb c 76 ≡ true → ltb c 64 ≡ false → ltb (c - 64) 12 ≡ true
-medium-few c h e = lt-ltb (c - 64) 12 (omega (arith, ltb-true c 76 h, ltb-false c 64 e))
+medium-few : (c : ℕ) → ltb c classCount ≡ true → ltb c 64 ≡ false → ltb (c - 64) 12 ≡ true
+medium-few c h e = lt-ltb (c - 64) 12 (omega (arith, ltb-true c classCount h, ltb-false c 64 e))
 
 abbrev pub taking : ℕ → Named
 taking c = record { class = c; request = Calls.take hostMax blank }
@@ -69,12 +69,12 @@ taking c = record { class = c; request = Calls.take hostMax blank }
 abbrev pub giving : Entry → Named
 giving e = record { class = e .class; request = Calls.giveBack hostMax (e .word ∷ []) }
 
-pub names-take : (c : ℕ) → ltb c 76 ≡ true → names (takeOf c) ≡ some (taking c)
+pub names-take : (c : ℕ) → ltb c classCount ≡ true → names (takeOf c) ≡ some (taking c)
 unfolding takeOf
 names-take c h =
     by-cases (ltb c 64) (λ e. rw (e, e)) (λ e. rw (e, medium-few c h e, medium-id c h e))
 
-pub names-back : (e : Entry) → ltb (e .class) 76 ≡ true → names (backOf e) ≡ some (giving e)
+pub names-back : (e : Entry) → ltb (e .class) classCount ≡ true → names (backOf e) ≡ some (giving e)
 unfolding backOf
 names-back e h =
     by-cases (ltb (e .class) 64) (λ u. rw (u, u)) (λ u. rw (u, medium-few (e .class) h u, medium-id (e .class) h u))
@@ -105,11 +105,11 @@ owned c nobody l = absurd (omega arith)
 owned c direct l = absurd (omega arith)
 owned c (class d) l = by-cases (eqb d c) (λ e. ap class (eqb-true d c e)) (λ e. absurd (omega (arith, rw e at l)))
 
-back-now : (n : ℕ) (b : List ℕ) (c w : ℕ) → ltb c 76 ≡ true → ownerAt n b w ≡ suc c → backNow n b w ≡ releaseBlocks n b c (shapeOf c) hostMax (w ∷ [])
+back-now : (n : ℕ) (b : List ℕ) (c w : ℕ) → ltb c classCount ≡ true → ownerAt n b w ≡ suc c → backNow n b w ≡ releaseBlocks n b c (shapeOf c) hostMax (w ∷ [])
 unfolding backNow
 back-now n b c w h e =
     let d : suc c - 1 ≡ c = omega arith in
-    let k : known (suc c) ≡ true = rw (le-leb 1 (suc c) (omega arith), le-leb (suc c) 76 (omega (arith, ltb-true c 76 h))) in
+    let k : known (suc c) ≡ true = rw (le-leb 1 (suc c) (omega arith), le-leb (suc c) classCount (omega (arith, ltb-true c classCount h))) in
     rw (e, k, d)
 
 -- ---- a report, t being its test of number 13
@@ -134,11 +134,11 @@ module _ (n : ℕ) (b : List ℕ) (o : Opens n [] b) (xs : List Call) where
     pub gave : Calls.blocksOf (next n [] b xs (takeOf c) .answer) ≡ Words.blocksOf (takeNow n book c)
     pub counts : length (Words.blocksOf (takeNow n book c)) ≡ takeNow n book c .count
 
-  take-is : (c : ℕ) → ltb c 76 ≡ true → next n [] b xs (takeOf c) ≡ takeReply (takeNow n book c)
+  take-is : (c : ℕ) → ltb c classCount ≡ true → next n [] b xs (takeOf c) ≡ takeReply (takeNow n book c)
   unfolding takeNow
   take-is c h = next-class n [] b o xs (takeOf c) (taking c) (names-take c h) refl
 
-  pub take-step : (c : ℕ) → ltb c 76 ≡ true → TakeStep c
+  pub take-step : (c : ℕ) → ltb c classCount ≡ true → TakeStep c
   take-step c h =
       let t = takeNow n book c in
       let i = take-is c h in
@@ -177,7 +177,7 @@ module _ (n : ℕ) (b : List ℕ) (o : Opens n [] b) (xs : List Call) where
     pub none : Calls.blocksOf (step n heap (backOf e) .answer) ≡ []
     pub kind : ofKind (shapeOf (e .class) .kind) (e .word) ≡ true
 
-  pub back-step : (e : Entry) → ltb (e .class) 76 ≡ true → In e (live n xs) → BackStep e
+  pub back-step : (e : Entry) → ltb (e .class) classCount ≡ true → In e (live n xs) → BackStep e
   back-step e h m =
       let w = e .word in
       let c = e .class in

@@ -9,7 +9,7 @@ use Rattle.facts.proofs.Prelude.{refl, sym, ap, ap₂, _∙_, eqb, ltb, length,
 use lib.ListN as ListN
 use Rattle.words.specs.Word.{kindOf}
 use Rattle.classes.specs.Sizes.{pageBytes}
-use Rattle.classes.specs.Shape.{shapeOf}
+use Rattle.classes.specs.Shape.{shapeOf, classCount}
 use Rattle.classes.proofs.Shapes.{shape-sound}
 use Rattle.rules.specs.Rules.{rulesOf}
 use Rattle.model.specs.Calls as Calls
@@ -35,7 +35,7 @@ use Rattle.demands.proofs.TraceListed.{listedWord, wordOf, Block, liste
 
 -- ---- what a word says names a class of ours
 abbrev Fine : Say → Type 0
-Fine (Trace.take c) = ltb c 76 ≡ true
+Fine (Trace.take c) = ltb c classCount ≡ true
 Fine (Trace.back p) = Unit {0}
 Fine Trace.report = Unit {0}
 Fine Trace.wrong = Unit {0}
@@ -43,7 +43,7 @@ Fine Trace.wrong = Unit {0}
 say-fine : (kind m : ℕ) → Fine (say kind m)
 say-fine kind m =
     by-cases (eqb kind 0)
-    (λ e. by-cases (ltb m 76) (λ u. rw (e, u) u) (λ u. rw (e, u) tt))
+    (λ e. by-cases (ltb m classCount) (λ u. rw (e, u) u) (λ u. rw (e, u) tt))
     (λ e. by-cases (eqb kind 1)
     (λ u. rw (e, u) tt)
     (λ u. by-cases (eqb kind 2 && eqb m 0) (λ v. rw (e, u, v) tt) (λ v. rw (e, u, v) tt)))
@@ -53,7 +53,7 @@ unfolding sayOf
 word-fine w = say-fine (w / 2 ^ 30) (w % 2 ^ 30)
 
 abbrev Known : Entry → Type 0
-Known e = ltb (e .class) 76 ≡ true
+Known e = ltb (e .class) classCount ≡ true
 
 -- a block that is out has its class's kind, 1 or 2
 live-block : (n : ℕ) (b : List ℕ) → (o : Opens n [] b) → (xs : List Call) (e : Entry) → Known e → In e (live n xs) → Block e
@@ -116,7 +116,7 @@ module _ (n : ℕ) (b : List ℕ) (o : Opens n [] b) where
     hs = r .handed
 
     -- a take
-    module _ (c : ℕ) (hc : ltb c 76 ≡ true) where
+    module _ (c : ℕ) (hc : ltb c classCount ≡ true) where
       abbrev took : List ℕ
       took = Words.blocksOf (takeNow n (bookAfter n [] b xs) c)
 

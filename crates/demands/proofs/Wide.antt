@@ -6,7 +6,7 @@ use Rattle.words.specs.Host.{hostMax}
 use Rattle.words.specs.Word.{kindBits, granuleOf, countOf, pageOf}
 use Rattle.words.proofs.RoundTrip.{kind-block, granule-block, block-lt, count-chunk, page-chunk}
 use Rattle.classes.specs.Sizes.{granuleBytes, pageBytes}
-use Rattle.classes.specs.Shape.{shapeOf}
+use Rattle.classes.specs.Shape.{shapeOf, classCount}
 use Rattle.classes.proofs.Shapes.{shape-sound}
 use Rattle.fields.specs.Ranges.{maxPages}
 use Rattle.model.specs.Calls as Calls
@@ -99,7 +99,7 @@ module _ (s : Start) (o : Starts s) (xs : List Call) where
 place-is : (k m p : ℕ) → say k m ≡ Trace.back p → p ≡ m
 place-is k m p h =
     by-cases (eqb k 0)
-    (λ e. by-cases (ltb m 76) (λ f. never (rw (e, f) at h)) (λ f. unsaid (rw (e, f) at h)))
+    (λ e. by-cases (ltb m classCount) (λ f. never (rw (e, f) at h)) (λ f. unsaid (rw (e, f) at h)))
     (λ e. by-cases (eqb k 1) (λ f. same (rw (e, f) at h)) (λ f. by-cases (eqb k 2 && eqb m 0) (λ z. unreported (rw (e, f, z) at h)) (λ z. unsaid (rw (e, f, z) at h))))
   where
     never : Trace.take m ≡ Trace.back p → p ≡ m

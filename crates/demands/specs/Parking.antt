@@ -13,9 +13,10 @@ use lib.Dec.{eqb, leb, ltb}
 use lib.ListN.{length}
 use Rattle.facts.specs.Lists.{isNil, elem}
 use Rattle.words.specs.Host.{digit}
+use Rattle.words.specs.Limits.{classRows}
 use Rattle.words.specs.Word.{pageOf}
 use Rattle.classes.specs.declared.Shape.{Shape}
-use Rattle.classes.specs.Shape.{shapeOf, classCount}
+use Rattle.classes.specs.Shape.{shapeOf}
 use Rattle.rules.specs.declared.Limits.{Limits}
 use Rattle.rules.specs.Rules.{plainRules, RowsCover, Fit}
 use Rattle.model.specs.declared.Destination.{Destination}
@@ -64,7 +65,7 @@ pub record Parking (s : Start) : Type 0 where
   pub no-rows : isNil (ruleRows s) ≡ true → rules s ≡ plainRules
   pub fit : (c : ℕ) → Fit (rules s c)
   -- each class's limits stand in its own row of the book: no call changes them
-  pub stand : (xs : List Call) (c : ℕ) → c < classCount → limitsAt (bookAfter s xs) c ≡ rules s c
+  pub stand : (xs : List Call) (c : ℕ) → c < classRows → limitsAt (bookAfter s xs) c ≡ rules s c
   -- and its stores keep to them, "alone": the class's own runs are counted
   pub within : (xs : List Call) (c : ℕ) → Within (shapeOf c) (rules s c) (heapAfter (pages s) (rules s) (calls s xs) .classes c)
   -- where an emptied run goes, e empty ones and k cold ones being kept: a small class has no other limit than its row's

@@ -16,9 +16,9 @@ use mathlib.Core.Bool.{Bool, cond, not, _&&_, _||_}
 use mathlib.Core.List.{List, [], _∷_, _++_, map}
 use lib.Dec.{eqb}
 use Rattle.facts.specs.Lists.{every, below}
+use Rattle.words.specs.Limits.{classRows}
 use Rattle.words.specs.Word.{countOf, pageOf}
 use Rattle.classes.specs.declared.Shape.{Shape}
-use Rattle.classes.specs.Shape.{classCount}
 use Rattle.fields.specs.Field.{arena, class, page, size, commits, commitsHigh, reuses, reusesHigh, abandoned, abandonedHigh, holes, partial, empty, cold, free, carved, listed, get}
 use Rattle.model.specs.Destination.{isArena}
 use Rattle.pages.specs.Stack.{indexOf}
@@ -64,7 +64,7 @@ parkedReads [] = []
 parkedReads (c ∷ cs) = emptyFew c ∷ coldFew c ∷ parkedReads cs
 
 unfoldable pub reportReads : List Use
-reportReads = recordReads ++ parkedReads (below classCount)
+reportReads = recordReads ++ parkedReads (below classRows)
 
 -- ---- a page that a take comes to, by a code of its run; m blocks are wanted
 -- the listed pages of the run at q

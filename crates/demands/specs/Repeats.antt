@@ -14,8 +14,9 @@ use mathlib.Core.Logic.{_↔_}
 use mathlib.Core.Path.{_≡_}
 use lib.Dec.{eqb}
 use Rattle.facts.specs.Lists.{every, distinct, count}
+use Rattle.words.specs.Limits.{classRows}
 use Rattle.classes.specs.declared.Shape.{Shape}
-use Rattle.classes.specs.Shape.{shapeOf, classCount}
+use Rattle.classes.specs.Shape.{shapeOf}
 use Rattle.fields.specs.Field.{arena, mark, size, get}
 use Rattle.model.specs.Calls as Calls
 use Rattle.model.specs.Calls.{Call}
@@ -98,5 +99,5 @@ pub record MarksAside : Type 0 where
 -- opening or a trace, every word of marks of every run of every class is 0
 abbrev pub Unmarked : Type 0
 Unmarked =
-    (s : Start) → Starts s → (xs : List Call) (c q : ℕ) → c < classCount → whole (pages s) (bookAfter s xs) (shapeOf c) c q ≡ true
+    (s : Start) → Starts s → (xs : List Call) (c q : ℕ) → c < classRows → whole (pages s) (bookAfter s xs) (shapeOf c) c q ≡ true
     → (j : ℕ) → j < outWords (shapeOf c) → get (bookAfter s xs) (mark q j) ≡ 0

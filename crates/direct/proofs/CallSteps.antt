@@ -4,10 +4,9 @@ use Rattle.facts.proofs.Prelude.{none, some, _≡_, refl, sym, ap, _∙_, subst
 use Rattle.facts.proofs.Prelude.{leb-true, leb-false, eq-eqb, ne-eqb, not-true, not-false, isSome, by-cases, and-left, and-right, and-no}
 use mir.Val.{Fits}
 use mir.Syntax.{w32, w64}
-use Rattle.words.specs.Limits.{maxPages}
+use Rattle.words.specs.Limits.{maxPages, classRows}
 use Rattle.words.specs.Host.{commitGranted}
 use Rattle.fields.specs.Field.{arena, class, frontier, state, held, emptyLimit, coldLimit, get, put}
-use Rattle.classes.specs.Shape.{classCount}
 use Rattle.rules.specs.declared.Limits.{Limits}
 use Rattle.rules.specs.Rules.{rulesOf}
 use Rattle.fields.proofs.Laws.{length-put}
@@ -95,7 +94,7 @@ clear-done b₀ b i k l = let z : i ≡ 768 = (let y = k .within in omega arith)
 -- ---- the limits of the first c classes
 module _ (b₀ rows : List ℕ) where
   pub record Ruling (b : List ℕ) (c : ℕ) : Type 0 where
-    pub within : c ≤ classCount
+    pub within : c ≤ classRows
     pub long : length b ≡ length b₀
     pub rest : b ≡ ruled b₀ (rulesOf rows) c
 
@@ -103,7 +102,7 @@ module _ (b₀ rows : List ℕ) where
   unfolding ruled
   rule-start = record { within = omega arith; long = refl; rest = refl }
 
-  module _ (b : List ℕ) (c : ℕ) (k : Ruling b c) (l : c < classCount) where
+  module _ (b : List ℕ) (c : ℕ) (k : Ruling b c) (l : c < classRows) where
     pub rule-again : (lim : Limits) (b₁ b₂ : List ℕ) → lim ≡ rulesOf rows c → b₁ ≡ put b (class emptyLimit c) (lim .empty) → b₂ ≡ put b₁ (class coldLimit c) (lim .cold) → Ruling b₂ (c + 1)
     unfolding ruled
     rule-again lim b₁ b₂ e z y = record {
@@ -112,8 +111,8 @@ module _ (b₀ rows : List ℕ) where
       rest = rw add-one (y ∙ rw (z, e, k .rest));
     }
 
-  pub rule-done : (b : List ℕ) (c : ℕ) → Ruling b c → classCount ≤ c → b ≡ ruled b₀ (rulesOf rows) classCount
-  rule-done b c k l = let z : c ≡ classCount = (let y = k .within in omega arith) in rw z at (k .rest)
+  pub rule-done : (b : List ℕ) (c : ℕ) → Ruling b c → classRows ≤ c → b ≡ ruled b₀ (rulesOf rows) classRows
+  rule-done b c k l = let z : c ≡ classRows = (let y = k .within in omega arith) in rw z at (k .rest)
 
 -- ---- contains
 module _ (n : ℕ) (b : List ℕ) (o k : ℕ) where

@@ -1,9 +1,9 @@
 -- The steps of a report: number 13 on what it reads, the pages of the parked runs, the figures.
 use Rattle.facts.proofs.Prelude.{ℕ, _+_, _-_, _*_, _^_, _≤_, _<_, arith, mul-le-mul, add-one, Bool, true, false, not, _&&_, List, _≡_, refl, sym, ap}
 use Rattle.facts.proofs.Prelude.{_∙_, leb, le-leb, lt-leb, leb-true, not-true, not-false, every, total, below, and-left, and-right, below-last, every-at}
-use Rattle.words.specs.Limits.{maxParked}
+use Rattle.words.specs.Limits.{maxParked, classRows}
 use Rattle.classes.specs.declared.Shape.{Shape}
-use Rattle.classes.specs.Shape.{shapeOf, classCount}
+use Rattle.classes.specs.Shape.{shapeOf}
 use Rattle.classes.proofs.Shapes.{shape-sound}
 use Rattle.fields.specs.Field.{arena, class, held, emptyCount, coldCount, get}
 use Rattle.model.specs.declared.Figures.{Figures}
@@ -30,10 +30,10 @@ module _ (b : List ℕ) (c x : ℕ) (e : x ≡ get b (class emptyCount c)) where
 module _ (b : List ℕ) where
   -- the classes below k decide it
   pub record CountsInv (k : ℕ) : Type 0 where
-    pub within : k ≤ classCount
+    pub within : k ≤ classRows
     pub rest : every (countsValid b) (below k) ≡ allCountsValid b
 
-  pub counts-start : CountsInv classCount
+  pub counts-start : CountsInv classRows
   unfolding allCountsValid
   counts-start = record { within = omega arith; rest = refl }
 
@@ -49,9 +49,9 @@ module _ (b : List ℕ) where
   pub counts-pass : (k : ℕ) → k ≡ 0 → CountsInv k → true ≡ allCountsValid b
   counts-pass k h i = rw h at (i .rest)
 
-  pub counts-at : (c : ℕ) → allCountsValid b ≡ true → c < classCount → countsValid b c ≡ true
+  pub counts-at : (c : ℕ) → allCountsValid b ≡ true → c < classRows → countsValid b c ≡ true
   unfolding allCountsValid
-  counts-at c t h = every-at (countsValid b) classCount c t h
+  counts-at c t h = every-at (countsValid b) classRows c t h
 
 -- ---- the parked runs of a class
 module _ (b : List ℕ) (c x y : ℕ) (t : countsValid b c ≡ true) (e : x ≡ get b (class emptyCount c)) (k : y ≡ get b (class coldCount c)) where
@@ -83,22 +83,22 @@ module _ (b : List ℕ) (c x y : ℕ) (t : countsValid b c ≡ true) (e : x ≡ 
 
 -- ---- of all classes
 pub record ParkedInv (b : List ℕ) (sum c : ℕ) : Type 0 where
-  pub at : c ≤ classCount
+  pub at : c ≤ classRows
   pub is : sum ≡ total (λ k. parkedRuns b k * shapeOf k .pages) (below c)
   pub low : sum ≤ c * parkedMax
 
 pub parked-start : (b : List ℕ) → ParkedInv b 0 0
 parked-start b = record { at = omega arith; is = refl; low = omega arith }
 
-pub parked-next : (b : List ℕ) (sum c r : ℕ) → ParkedInv b sum c → c < classCount → Parks b c r → ParkedInv b (sum + r) (c + 1)
+pub parked-next : (b : List ℕ) (sum c r : ℕ) → ParkedInv b sum c → c < classRows → Parks b c r → ParkedInv b (sum + r) (c + 1)
 parked-next b sum c r v h e = record { at = omega arith; is = rw add-one (omega (arith, v .is, e .pages)); low = omega (arith, v .low, e .few) }
 
-pub sum-fits : (b : List ℕ) (sum c r : ℕ) → ParkedInv b sum c → c < classCount → Parks b c r → sum + r < 2 ^ 32
+pub sum-fits : (b : List ℕ) (sum c r : ℕ) → ParkedInv b sum c → c < classRows → Parks b c r → sum + r < 2 ^ 32
 sum-fits b sum c r v h e = omega (arith, v .low, e .few)
 
-pub parked-end : (b : List ℕ) (sum c : ℕ) → ParkedInv b sum c → classCount ≤ c → sum ≡ parkedPages (parkedRuns b)
+pub parked-end : (b : List ℕ) (sum c : ℕ) → ParkedInv b sum c → classRows ≤ c → sum ≡ parkedPages (parkedRuns b)
 unfolding parkedPages
-parked-end b sum c v h = let e : c ≡ classCount = omega (arith, v .at) in v .is ∙ ap (λ m. total (λ k. parkedRuns b k * shapeOf k .pages) (below m)) e
+parked-end b sum c v h = let e : c ≡ classRows = omega (arith, v .at) in v .is ∙ ap (λ m. total (λ k. parkedRuns b k * shapeOf k .pages) (below m)) e
 
 -- ---- the figures
 module _ (n : ℕ) (b : List ℕ) where

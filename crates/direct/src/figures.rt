@@ -1,6 +1,6 @@
 // A report: number 13 on what it reads, then its figures.
 use super::Report;
-use classes::CLASS_COUNT;
+use classes::CLASS_ROWS;
 use model::Figures;
 use runs::load;
 use words::limits::MAX_PARKED;
@@ -30,7 +30,7 @@ fn all_counts_valid(meta: &[u32]) -> bool
     requires { ⌜ 40000 ≤ length (now meta) ⌝ }
     ensures { λ r. ⌜ r ≡ allCountsValid (now (meta .entry)) ⌝ }
 {
-    let mut c = CLASS_COUNT;
+    let mut c = CLASS_ROWS;
     while c != 0 {
         c -= 1;
         if !counts_valid(meta, c) {
@@ -59,7 +59,7 @@ fn parked_pages(meta: &[u32]) -> u32
 {
     let mut sum = 0;
     let mut c = 0;
-    while c < CLASS_COUNT {
+    while c < CLASS_ROWS {
         sum += parked_of(meta, c);
         c += 1;
     }

@@ -2,10 +2,10 @@
 ghost use mathlib.Core.Path.{_≡_};
 ghost use Prim.Native.Nat.{_≤_};
 ghost use lib.ListN.{length};
-ghost use Rattle.classes.specs.Shape.{classCount};
+ghost use Rattle.words.specs.Limits.{classRows};
 ghost use Rattle.rules.specs.Rules.{rulesOf};
 ghost use Rattle.arena.specs.Open.{cleared, headWords, ruled, opened};
-use classes::CLASS_COUNT;
+use classes::CLASS_ROWS;
 
 fn clear_head(meta: &mut [u32])
     requires { ⌜ 40000 ≤ length (now meta) ⌝ }
@@ -20,10 +20,10 @@ fn clear_head(meta: &mut [u32])
 
 fn set_rules(meta: &mut [u32], rows: &[u32])
     requires { ⌜ 40000 ≤ length (now meta) ⌝ }
-    ensures { λ _. ⌜ now (meta .exit) ≡ ruled (now (meta .entry)) (rulesOf (now (rows .entry))) classCount ⌝ }
+    ensures { λ _. ⌜ now (meta .exit) ≡ ruled (now (meta .entry)) (rulesOf (now (rows .entry))) classRows ⌝ }
 {
     let mut c = 0;
-    while c < CLASS_COUNT {
+    while c < CLASS_ROWS {
         let limits = rules::limits_of(rows, c);
         fields::class::set_empty_limit(meta, c, limits.empty);
         fields::class::set_cold_limit(meta, c, limits.cold);

@@ -13,7 +13,7 @@ use mathlib.Core.Bool.{Bool, true, cond, _&&_}
 use mathlib.Core.List.{List}
 use lib.Dec.{eqb, ltb}
 use lib.ListN.{length, getD, set}
-use Rattle.words.specs.Limits.{holeSlots}
+use Rattle.words.specs.Limits.{holeSlots, classRows}
 
 -- `size` is the arena's length in pages, the word LENGTH (`length` is a list's); a count is 64 bits, in two words
 pub data ArenaField : Type 0 where
@@ -173,7 +173,7 @@ same f g = eqb (region f) (region g) && (eqb (off f) (off g) && (eqb (block f) (
 abbrev pub ok : Field → Bool
 ok (arena k) = true
 ok (mark p j) = ltb j 128
-ok (class k c) = ltb c 76
+ok (class k c) = ltb c classRows
 ok (hole k i) = ltb i holeSlots
 ok (page k p) = true
 ok (out p i) = ltb i 4096
@@ -182,7 +182,7 @@ ok (slot p i) = ltb i 4096
 abbrev pub inBook : ℕ → Field → Bool
 inBook n (arena k) = true
 inBook n (mark p j) = ltb j 128 && ltb p n
-inBook n (class k c) = ltb c 76
+inBook n (class k c) = ltb c classRows
 inBook n (hole k i) = ltb i holeSlots
 inBook n (page k p) = ltb p n
 inBook n (out p i) = ltb i 4096 && ltb p n

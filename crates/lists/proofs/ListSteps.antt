@@ -1,5 +1,6 @@
 -- The ways out of the functions on a class's lists.
 use Rattle.facts.proofs.Prelude.{ℕ, zero, suc, _+_, _-_, sub-one, true, List, _≡_, refl, ltb, length, lt-ltb}
+use Rattle.words.specs.Limits.{classRows}
 use Rattle.fields.specs.Field.{ClassField, class, page, partial, next, prev, listed, get, put}
 use Rattle.fields.specs.Outcome.{putAt}
 use Rattle.fields.proofs.Laws.{get-put-other, length-put}
@@ -23,7 +24,7 @@ pub put-told : (f : Park → ClassField) (b b′ : List ℕ) (c v : ℕ) (k k′
 put-told f b b′ c v k k′ e h = rw e h
 
 -- a page that leaves a store: the partial list's head is as it was
-partial-pop-store : (b : List ℕ) (c : ℕ) (k : Park) (q : ℕ) → ltb c 76 ≡ true → get (popStore b c k q) (class partial c) ≡ get b (class partial c)
+partial-pop-store : (b : List ℕ) (c : ℕ) (k : Park) (q : ℕ) → ltb c classRows ≡ true → get (popStore b c k q) (class partial c) ≡ get b (class partial c)
 unfolding popStore
 partial-pop-store b c Empty q h = simp get-put-other
 partial-pop-store b c Cold q h = simp get-put-other
@@ -35,7 +36,7 @@ length-pop-store b c k q = simp length-put
 pub unpark-run-links : (b b₁ : List ℕ) (c : ℕ) (k : Park) (q : ℕ) → UnparkRunPre b c k q → b₁ ≡ popStore b c k q → LinkPre b₁ c q
 unpark-run-links b b₁ c k q h e =
     let l = length-pop-store b c k q in
-    let p = partial-pop-store b c k q (lt-ltb c 76 (h .known)) in
+    let p = partial-pop-store b c k q (lt-ltb c classRows (h .known)) in
     record { known = h .known; below = h .below; there = rw (e, l) (h .there); head = rw (e, l, p) (h .head) }
 
 module _ (b : List ℕ) (c q : ℕ) where

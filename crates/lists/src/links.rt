@@ -2,6 +2,7 @@
 ghost use mathlib.Core.Path.{_≡_};
 ghost use Prim.Native.Nat.{_≤_, _<_};
 ghost use lib.ListN.{length};
+ghost use Rattle.words.specs.Limits.{classRows};
 ghost use Rattle.fields.specs.Field.{prev, words};
 ghost use Rattle.fields.specs.Outcome.{putAt};
 ghost use Rattle.pages.specs.Links.{pointNext, linked, cutOut, link, unlink};
@@ -19,7 +20,7 @@ fn set_prev_at(meta: &mut [u32], code: u32, v: u32)
 
 // What points forward to a place: NEXT of the page before it, or else the class's PARTIAL.
 fn point_next(meta: &mut [u32], c: u32, code: u32, v: u32)
-    requires { ⌜ c < 76 ⌝ }
+    requires { ⌜ c < classRows ⌝ }
     requires { ⌜ words code ≤ length (now meta) ⌝ }
     ensures { λ _. ⌜ now (meta .exit) ≡ pointNext (now (meta .entry)) c code v ⌝ }
 {

@@ -1,6 +1,7 @@
 -- Parked pages: one class holds a page at most, so a page is parked once at most, and then it is held.
 use Rattle.facts.proofs.Prelude.{ℕ, zero, suc, _+_, _*_, _≤_, arith, List, _≡_, refl, sym, _∙_, eqb, eqb-true, total, below, by-cases}
-use Rattle.classes.specs.Shape.{shapeOf, classCount}
+use Rattle.words.specs.Limits.{classRows}
+use Rattle.classes.specs.Shape.{shapeOf}
 use Rattle.rules.specs.Rules.{Rules}
 use Rattle.model.specs.Cover.{covers}
 use Rattle.model.specs.Calls.{Call}
@@ -42,7 +43,7 @@ module _ (size : ℕ) (rules : Rules) (xs : List Call) where
 
   pub parked-held : (x : ℕ) → parkedAt H x ≤ isHeld (H .holder x)
   unfolding parkedAt
-  parked-held x = parked-below x classCount
+  parked-held x = parked-below x classRows
 
   class-sum : (c : ℕ) → total (λ x. parkedWith (shapeOf c) x (H .classes c)) (below size) ≡ parkedRuns (H .classes c) * shapeOf c .pages
   class-sum c =
@@ -60,5 +61,5 @@ module _ (size : ℕ) (rules : Rules) (xs : List Call) where
   pub parked-sum : parkedPages (λ c. parkedRuns (H .classes c)) ≡ total (parkedAt H) (below size)
   unfolding parkedPages parkedAt
   parked-sum =
-      sym (total-swap (λ c x. parkedWith (shapeOf c) x (H .classes c)) (below classCount) (below size)
-      ∙ total-same (λ c. total (λ x. parkedWith (shapeOf c) x (H .classes c)) (below size)) (λ c. parkedRuns (H .classes c) * shapeOf c .pages) (below classCount) class-sum)
+      sym (total-swap (λ c x. parkedWith (shapeOf c) x (H .classes c)) (below classRows) (below size)
+      ∙ total-same (λ c. total (λ x. parkedWith (shapeOf c) x (H .classes c)) (below size)) (λ c. parkedRuns (H .classes c) * shapeOf c .pages) (below classRows) class-sum)

@@ -5,9 +5,10 @@ use mathlib.Core.Bool.{Bool, true, false, cond, not, _&&_, _||_}
 use lib.Dec.{eqb, leb}
 use lib.ListN.{length}
 use Rattle.facts.specs.Lists.{every, total, update, below}
+use Rattle.words.specs.Limits.{classRows}
 use Rattle.model.specs.Cover.{covers, coversAll, coversRun}
 use Rattle.classes.specs.declared.Shape.{Shape}
-use Rattle.classes.specs.Shape.{shapeOf, classCount}
+use Rattle.classes.specs.Shape.{shapeOf}
 use Rattle.rules.specs.Rules.{Rules}
 use Rattle.model.specs.declared.Hole.{Hole}
 use Rattle.model.specs.declared.Figures.{Figures}
@@ -129,7 +130,7 @@ abbrev pub parkedRuns : Class → ℕ
 parkedRuns s = length (s .empty) + length (s .cold)
 
 unfoldable pub parkedPages : (ℕ → ℕ) → ℕ
-parkedPages runs = total (λ c. runs c * shapeOf c .pages) (below classCount)
+parkedPages runs = total (λ c. runs c * shapeOf c .pages) (below classRows)
 
 -- idle pages "are hole pages plus those above the frontier" and, by document 02, A.5, "also .. pages in the empty and cold stores of
 -- every class": these are held as well, so they are the overlap

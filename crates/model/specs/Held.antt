@@ -8,8 +8,9 @@ use mathlib.Core.Bool.{cond, _||_}
 use lib.Dec.{eqb}
 use lib.ListN.{length, take}
 use Rattle.facts.specs.Lists.{total, below, isSome}
+use Rattle.words.specs.Limits.{classRows}
 use Rattle.classes.specs.declared.Shape.{Shape}
-use Rattle.classes.specs.Shape.{shapeOf, classCount}
+use Rattle.classes.specs.Shape.{shapeOf}
 use Rattle.model.specs.declared.Hole.{Hole}
 use Rattle.model.specs.Cover.{covers}
 use Rattle.model.specs.Calls as Calls
@@ -105,7 +106,7 @@ abbrev pub parkedWith : Shape → ℕ → Class → ℕ
 parkedWith sh x s = total (λ (p : Page). covers (sh .pages) (p .first) x) (s .empty) + total (λ (p : Cold). covers (sh .pages) (p .first) x) (s .cold)
 
 unfoldable pub parkedAt : Heap → ℕ → ℕ
-parkedAt H x = total (λ c. parkedWith (shapeOf c) x (H .classes c)) (below classCount)
+parkedAt H x = total (λ c. parkedWith (shapeOf c) x (H .classes c)) (below classRows)
 
 -- it is in a hole, at or above the frontier, or parked
 abbrev pub idleAt : Heap → ℕ → ℕ

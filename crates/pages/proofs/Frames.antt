@@ -2,6 +2,7 @@
 --     changes-link .. changes-new    the steps
 --     back-free                      blocks that come back leave FREE until they are counted
 use Rattle.facts.proofs.Prelude.{ℕ, zero, suc, _+_, _*_, _/_, _≤_, _<_, arith, add-zero, Bool, true, false, cond, List, _≡_, refl, ap, _∙_, ltb, length, every}
+use Rattle.words.specs.Limits.{classRows}
 use Rattle.model.specs.Page.{isMedium}
 use Rattle.classes.specs.declared.Shape.{Shape}
 use Rattle.fields.specs.Field.{Field, class, page, slot, mark, out, partial, next, prev, first, free, carved, listed, virgin, get, put}
@@ -29,7 +30,7 @@ at-once-le sh = go (isMedium sh)
 pub at-once-few : (sh : Shape) (k : ℕ) → k ≡ carvedAtOnce sh → sh .capacity ≤ 4096 → k ≤ 4096
 at-once-few sh k e h = omega (arith, at-once-le sh)
 
-module _ (t : Field → Bool) (b : List ℕ) (c q : ℕ) (hc : ltb c 76 ≡ true) where
+module _ (t : Field → Bool) (b : List ℕ) (c q : ℕ) (hc : ltb c classRows ≡ true) where
   -- ---- the partial list
   pub changes-link : t (class partial c) ≡ true → t (page next q) ≡ true → t (page prev q) ≡ true → t (page listed q) ≡ true
       → ((x : ℕ) → get b (class partial c) ≡ suc x → t (page prev x) ≡ true) → Changes t b (link b c q)

@@ -9,8 +9,8 @@ zero-at zero k = refl
 zero-at (suc n) zero = refl
 zero-at (suc n) (suc k) = zero-at n k
 
-pub zeros : Zeros (replicate 76 0)
-zeros = record { long = refl; zeros = λ c l. zero-at 76 c }
+pub zeros : Zeros (replicate classCount 0)
+zeros = record { long = refl; zeros = λ c l. zero-at classCount c }
 
 pub unrefused : (ks ts : List ℕ) (r : Bool) → r ≡ badPlan ks ts → r ≡ false → Fine ks ts
 unrefused ks ts r e f = fine ks ts (sym e ∙ f)

@@ -2,7 +2,7 @@
 use Rattle.facts.proofs.Prelude.{ℕ, zero, suc, _+_, _*_, _/_, _%_, _≤_, _<_, arith, true, false, false≢true, List, [], _∷_, _≡_, refl, sym, ap, _∙_, subst, eqb, ltb}
 use Rattle.facts.proofs.Prelude.{length, getD, set, getD-set-same, getD-set-other, ltb-true, ltb-false, eq-eqb, eqb-true, eqb-false, elem, by-cases, or-left, or-right}
 use Rattle.words.specs.Word.{blockWord}
-use Rattle.classes.specs.Shape.{shapeOf}
+use Rattle.classes.specs.Shape.{shapeOf, classCount}
 use Rattle.fields.specs.Field.{read, place}
 use Rattle.fields.proofs.Parts.{read-place, read-place-other, Split, below, above}
 use Rattle.poolcalls.specs.Stock.{countAt, entryAt, placeAt, placeBits, countIn, entryIn, placeIn, blockIn, stockFrom, putEntry, putPlace, putCount}
@@ -31,9 +31,9 @@ stock-in b c g (suc m) e =
 pub place-bound : (n g : ℕ) → g < 4096 * n → placeAt g < 40000 + 4112 * n
 place-bound n g h = omega arith
 
-module _ (b : List ℕ) (c : ℕ) (hc : ltb c 76 ≡ true) (k : ℕ) where
-  low : c < 76
-  low = ltb-true c 76 hc
+module _ (b : List ℕ) (c : ℕ) (hc : ltb c classCount ≡ true) (k : ℕ) where
+  low : c < classCount
+  low = ltb-true c classCount hc
 
   -- COUNT
   pub count-count : 40000 ≤ length b → countIn (putCount b c k) c ≡ k
@@ -54,9 +54,9 @@ module _ (b : List ℕ) (c : ℕ) (hc : ltb c 76 ≡ true) (k : ℕ) where
 
   -- ENTRY k
   module _ (hk : k < 256) (g : ℕ) where
-    pub count-entry : (d : ℕ) → ltb d 76 ≡ true → countIn (putEntry b c k g) d ≡ countIn b d
+    pub count-entry : (d : ℕ) → ltb d classCount ≡ true → countIn (putEntry b c k g) d ≡ countIn b d
     unfolding countIn putEntry
-    count-entry d hd = getD-set-other b (entryAt c k) (countAt d) g 0 (λ z. omega (arith, ltb-true d 76 hd))
+    count-entry d hd = getD-set-other b (entryAt c k) (countAt d) g 0 (λ z. omega (arith, ltb-true d classCount hd))
 
     pub entry-entry : 40000 ≤ length b → entryIn (putEntry b c k g) c k ≡ g
     unfolding entryIn putEntry
@@ -94,13 +94,13 @@ granule-same x g e f =
 
 -- PLACE
 module _ (b : List ℕ) (g k : ℕ) where
-  pub count-place : (d : ℕ) → ltb d 76 ≡ true → countIn (putPlace b g k) d ≡ countIn b d
+  pub count-place : (d : ℕ) → ltb d classCount ≡ true → countIn (putPlace b g k) d ≡ countIn b d
   unfolding countIn putPlace
-  count-place d hd = getD-set-other b (placeAt g) (countAt d) _ 0 (λ z. omega (arith, ltb-true d 76 hd))
+  count-place d hd = getD-set-other b (placeAt g) (countAt d) _ 0 (λ z. omega (arith, ltb-true d classCount hd))
 
-  pub entry-place : (d j : ℕ) → ltb d 76 ≡ true → j < 256 → entryIn (putPlace b g k) d j ≡ entryIn b d j
+  pub entry-place : (d j : ℕ) → ltb d classCount ≡ true → j < 256 → entryIn (putPlace b g k) d j ≡ entryIn b d j
   unfolding entryIn putPlace
-  entry-place d j hd h = getD-set-other b (placeAt g) (entryAt d j) _ 0 (λ z. omega (arith, ltb-true d 76 hd))
+  entry-place d j hd h = getD-set-other b (placeAt g) (entryAt d j) _ 0 (λ z. omega (arith, ltb-true d classCount hd))
 
   pub place-place : placeAt g < length b → k < 256 → placeIn (putPlace b g k) g ≡ k
   unfolding placeIn putPlace

@@ -5,6 +5,7 @@
 use Rattle.facts.proofs.Prelude.{ℕ, zero, suc, _+_, _-_, _*_, _/_, _%_, _≤_, _<_, arith, Bool, true, false, true≢false, false≢true, List, [], _∷_, inr, Option, none, some, _≡_}
 use Rattle.facts.proofs.Prelude.{refl, sym, ap, _∙_, subst, ltb, leb, length, getD, set, length-set, getD-set-other, lt-ltb, le-ltb, ltb-true, ne-eqb, lt-leb, by-cases, and-no}
 use Rattle.words.specs.Host.{badHost}
+use Rattle.words.specs.Limits.{classRows}
 use Rattle.classes.specs.Shape.{shapeOf}
 use Rattle.classes.proofs.Shapes.{shape-sound}
 use Rattle.rules.specs.Rules.{Rules}
@@ -68,12 +69,12 @@ pair-heap a u l =
 pub page-in : (q : ℕ) → PageIn heapWord q
 page-in q = record { words = word-heap q; pairs = λ j l. at-word heapWord (omega arith) (pair-heap (q / 256) (2 * (q % 256) + j) (omega arith)) }
 
-pub row-in : (c : ℕ) → ltb c 76 ≡ true → RowIn heapWord c
+pub row-in : (c : ℕ) → ltb c classRows ≡ true → RowIn heapWord c
 unfolding heapWord
 row-in c h = record {
   words = λ j l. rw (
-    lt-ltb (160 + 8 * c + j) 40000 (omega (arith, ltb-true c 76 h)),
-    lt-ltb (160 + 8 * c + j) 9216 (omega (arith, ltb-true c 76 h)),
+    lt-ltb (160 + 8 * c + j) 40000 (omega (arith, ltb-true c classRows h)),
+    lt-ltb (160 + 8 * c + j) 9216 (omega (arith, ltb-true c classRows h)),
     ne-eqb ((160 + 8 * c + j) % 8) 7 (omega arith),
     and-no (ltb (160 + 8 * c + j) 768),
     and-no (leb 160 (160 + 8 * c + j)),
@@ -115,11 +116,11 @@ words-changes b b′ l h = record { long = l; kept = λ g o t. ap (read (part g)
 
 pub represents-still : (n : ℕ) (b : List ℕ) (H : Heap) → Represents n b H → Reached n H → (b′ : List ℕ) → Changes (λ f. false) b b′ → Represents n b′ H
 represents-still n b H R ok b′ h =
-    let o : Only 76 b b′ = changes-mono (λ f. false) (ofClass b 76) b b′ (λ g e. absurd (false≢true e)) h in
+    let o : Only classRows b b′ = changes-mono (λ f. false) (ofClass b classRows) b b′ (λ g e. absurd (false≢true e)) h in
     record {
-      arena = arena-only n b b′ H 76 ok o (R .arena);
-      classes = λ c hc. other-class-kept c 76 (shape-sound c) hc (λ e. omega (arith, ltb-true c 76 hc)) o (R .classes c hc);
-      rules = λ c hc. only-rule 76 o c hc (R .rules c hc);
+      arena = arena-only n b b′ H classRows ok o (R .arena);
+      classes = λ c hc. other-class-kept c classRows (shape-sound c) hc (λ e. omega (arith, ltb-true c classRows hc)) o (R .classes c hc);
+      rules = λ c hc. only-rule classRows o c hc (R .rules c hc);
     }
 
 -- ---- the direct calls

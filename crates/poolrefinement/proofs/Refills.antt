@@ -16,6 +16,7 @@ use Rattle.model.proofs.EntryCounts.{is}
 use Rattle.model.proofs.Counts.{elem-count, count-not, count-reverse}
 use Rattle.model.proofs.Update.{update-same, update-other, other-way}
 use Rattle.calls.specs.Take.{Took, takeCall}
+use Rattle.refinement.proofs.ArenaHolders.{row-known}
 use Rattle.refinement.specs.way.Represents.{Represents}
 use Rattle.refinement.specs.Direct.{Agrees}
 use Rattle.refinement.specs.Classes.{takeReply}
@@ -80,7 +81,7 @@ module _ (n : ℕ) (hn : n ≤ maxPages) (P : Pool) (b : List ℕ) (R : PoolRep 
   o = step n H (callFor c (Calls.take h blank))
 
   agrees : Agrees (Represents n) (takeReply t) o
-  agrees = rw (step-take n H c h blank fine hc) (take-whole n b H (R .heap) ok c hc (listed c) h blank)
+  agrees = rw (step-take n H c h blank fine hc) (take-whole n b H (R .heap) ok c (row-known c hc) (listed c) h blank)
 
   zero-code : eqb (t .code) 0 ≡ true
   zero-code = code-zero (t .code) _ (o .answer) (agrees .answer) (took-done n P c h fine hc)
@@ -95,12 +96,12 @@ module _ (n : ℕ) (hn : n ≤ maxPages) (P : Pool) (b : List ℕ) (R : PoolRep 
   within = subst Within (sym answered) (took-within n P c h fine hc)
 
   frame : (i : ℕ) → heapWord i ≡ false → getD (t .book) i 0 ≡ getD b i 0
-  frame i e = class-frame n hn b H (R .heap) ok c (listed c) (Calls.take h blank) hc i e
+  frame i e = class-frame n hn b H (R .heap) ok c (listed c) (Calls.take h blank) (row-known c hc) i e
 
   long : words n ≤ length (t .book)
   long = leb-true (words n) (length (t .book)) (agrees .heap .arena .long)
 
-  beside : (d : ℕ) → ltb d 76 ≡ true → StockRep n (t .book) d (P .stock d)
+  beside : (d : ℕ) → ltb d classCount ≡ true → StockRep n (t .book) d (P .stock d)
   beside d hd = stock-still n b (t .book) d (P .stock d) hd frame (R .stocks d hd)
 
   module _ (w : ℕ) (ws : List ℕ) (e : reverse (blocksOf (o .answer)) ≡ w ∷ ws) where
@@ -134,7 +135,7 @@ module _ (n : ℕ) (hn : n ≤ maxPages) (P : Pool) (b : List ℕ) (R : PoolRep 
         (λ v z. (out-word n hn (next .number) (suc k) P′ (next .entries) gs′ f′ (next .lost) I c v (out v z), out-low n hn (next .number) (suc k) P′ (next .entries) gs′ f′ (next .lost) I c v (out v z)))
 
     -- another class has none of them
-    module _ (d : ℕ) (hd : ltb d 76 ≡ true) (ne : eqb d c ≡ false) where
+    module _ (d : ℕ) (hd : ltb d classCount ≡ true) (ne : eqb d c ≡ false) where
       apart : (v : ℕ) → 1 ≤ count v (reverse ws) → (j : ℕ) → j < countIn (t .book) d → entryIn (t .book) d j ≡ granuleOf v → ⊥
       apart v z j lt g =
           let r = beside d hd in

@@ -19,6 +19,7 @@ use Rattle.model.proofs.EntryCounts.{is}
 use Rattle.model.proofs.Counts.{elem-count, count-not}
 use Rattle.calls.specs.Out.{outAt}
 use Rattle.calls.specs.Release.{Released, releaseBlocks}
+use Rattle.refinement.proofs.ArenaHolders.{row-known}
 use Rattle.refinement.specs.way.Represents.{Represents}
 use Rattle.refinement.specs.Direct.{Agrees}
 use Rattle.refinement.specs.Releases.{listReply}
@@ -52,15 +53,15 @@ in-stock-if : (sh : Shape) (s : Class) (st : List ℕ) (w : ℕ) → isGranted s
 unfolding isGranted
 in-stock-if sh s st w g o = not-false (elem w st) (rw o at g)
 
-pub stocks-with : (n : ℕ) (b : List ℕ) (f : ℕ → List ℕ) (c : ℕ) (st : List ℕ) → StockRep n b c st → ((d : ℕ) → ltb d 76 ≡ true → eqb d c ≡ false → StockRep n b d (f d))
-    → (d : ℕ) → ltb d 76 ≡ true → StockRep n b d (update f c st d)
+pub stocks-with : (n : ℕ) (b : List ℕ) (f : ℕ → List ℕ) (c : ℕ) (st : List ℕ) → StockRep n b c st → ((d : ℕ) → ltb d classCount ≡ true → eqb d c ≡ false → StockRep n b d (f d))
+    → (d : ℕ) → ltb d classCount ≡ true → StockRep n b d (update f c st d)
 stocks-with n b f c st own others d hd =
     by-cases (eqb d c) (λ e. rw e (subst (λ j. StockRep n b j st) (sym (eqb-true d c e)) own)) (λ e. rw e (others d hd e))
 
 pub code-zero : (j : ℕ) (x a : Answer) → cond (eqb j 0) x (Calls.refused j) ≡ a → isRefused a ≡ false → eqb j 0 ≡ true
 code-zero j x a e u = by-cases (eqb j 0) (λ t. t) (λ t. let z : Calls.refused j ≡ a = rw t at e in absurd (true≢false (ap isRefused z ∙ u)))
 
-count-same : (b b′ : List ℕ) (c : ℕ) → ltb c 76 ≡ true → ((i : ℕ) → heapWord i ≡ false → getD b′ i 0 ≡ getD b i 0) → countIn b′ c ≡ countIn b c
+count-same : (b b′ : List ℕ) (c : ℕ) → ltb c classCount ≡ true → ((i : ℕ) → heapWord i ≡ false → getD b′ i 0 ≡ getD b i 0) → countIn b′ c ≡ countIn b c
 unfolding countIn
 count-same b b′ c hc h = h (countAt c) (count-word c hc)
 
@@ -132,10 +133,10 @@ module _ (n : ℕ) (hn : n ≤ maxPages) (P : Pool) (b : List ℕ) (R : PoolRep 
 
     pub out-test : outAt n b c (shapeOf c) w ≡ true
     unfolding isGranted
-    out-test = out-here (setting-of n b H (R .heap) c hc) hn (H .classes c) (R .heap .classes c hc) w kd ∙ and-left (outHere (shapeOf c) (H .classes c) w) _ g
+    out-test = out-here (setting-of n b H (R .heap) c (row-known c hc)) hn (H .classes c) (R .heap .classes c (row-known c hc)) w kd ∙ and-left (outHere (shapeOf c) (H .classes c) w) _ g
 
     -- no other class has a block at this granule
-    far : (d : ℕ) → ltb d 76 ≡ true → eqb d c ≡ false → (j : ℕ) → j < countIn b d → entryIn b d j ≡ granuleOf w → ⊥
+    far : (d : ℕ) → ltb d classCount ≡ true → eqb d c ≡ false → (j : ℕ) → j < countIn b d → entryIn b d j ≡ granuleOf w → ⊥
     far d hd ne j lt e =
         let r = R .stocks d hd in
         let v = blockIn b d j in
@@ -169,7 +170,7 @@ module _ (n : ℕ) (hn : n ≤ maxPages) (P : Pool) (b : List ℕ) (R : PoolRep 
     o = step n H (callFor c (Calls.giveBack h (w ∷ [])))
 
     agrees : Agrees (Represents n) (listReply z) o
-    agrees = rw (step-give n H c h (w ∷ []) fine hc) (release-whole n hn b H (R .heap) ok c hc h (w ∷ []))
+    agrees = rw (step-give n H c h (w ∷ []) fine hc) (release-whole n hn b H (R .heap) ok c (row-known c hc) h (w ∷ []))
 
     fine-answer : isRefused (o .answer) ≡ false
     fine-answer = gives n hn m k P es gs f l K c w h fine hc out
@@ -178,9 +179,9 @@ module _ (n : ℕ) (hn : n ≤ maxPages) (P : Pool) (b : List ℕ) (R : PoolRep 
     zero-code = code-zero (z .code) _ (o .answer) (agrees .answer) fine-answer
 
     frame : (i : ℕ) → heapWord i ≡ false → getD (z .book) i 0 ≡ getD b i 0
-    frame i e = class-frame n hn b H (R .heap) ok c (listed c) (Calls.giveBack h (w ∷ [])) hc i e
+    frame i e = class-frame n hn b H (R .heap) ok c (listed c) (Calls.giveBack h (w ∷ [])) (row-known c hc) i e
 
-    beside : (d : ℕ) → ltb d 76 ≡ true → StockRep n (z .book) d (P .stock d)
+    beside : (d : ℕ) → ltb d classCount ≡ true → StockRep n (z .book) d (P .stock d)
     beside d hd = stock-still n b (z .book) d (P .stock d) hd frame (R .stocks d hd)
 
     pub given-agrees : ofKind (shapeOf c .kind) w ≡ true → isGranted (shapeOf c) (H .classes c) st w ≡ true → ltb (countIn b c) (stockMost c) ≡ false
@@ -236,7 +237,7 @@ module _ (n : ℕ) (hn : n ≤ maxPages) (P : Pool) (b : List ℕ) (R : PoolRep 
   in-it : (w : ℕ) → ofKind (shapeOf c .kind) w ≡ true → isGranted (shapeOf c) (H .classes c) st w ≡ false → outAt n b c (shapeOf c) w ≡ true → stocked b c (granuleOf w) ≡ true
   in-it w kd g o =
       stocked-is n b c (granuleOf w) st rep ∙ subst (λ v. elem v st ≡ true) (kind-word (shapeOf c .kind) w kd)
-      (in-stock-if (shapeOf c) (H .classes c) st w g (sym (out-here (setting-of n b H (R .heap) c hc) hn (H .classes c) (R .heap .classes c hc) w kd) ∙ o))
+      (in-stock-if (shapeOf c) (H .classes c) st w g (sym (out-here (setting-of n b H (R .heap) c (row-known c hc)) hn (H .classes c) (R .heap .classes c (row-known c hc)) w kd) ∙ o))
 
   pub grant-refused : (h w : ℕ) → ofKind (shapeOf c .kind) w ≡ true → isGranted (shapeOf c) (H .classes c) st w ≡ false → Refuses h w
   unfolding freeOn carry planFree

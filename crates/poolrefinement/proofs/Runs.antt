@@ -1,6 +1,8 @@
 -- Whole histories of the pool on an opened book.
 use Rattle.facts.proofs.Prelude.{ℕ, zero, suc, _≤_, arith, true, false, true≢false, List, [], _∷_, _++_, map, _≡_, refl, sym}
 use Rattle.facts.proofs.Prelude.{ap, ap₂, _∙_, subst, ltb, leb, length, getD, getD-set-other, ltb-true, lt-ltb, leb-true}
+use Rattle.words.specs.Limits.{classRows}
+use Rattle.classes.specs.Shape.{classCount}
 use Rattle.rules.specs.Rules.{Rules, Fit}
 use Rattle.fields.specs.Ranges.{maxPages}
 use Rattle.fields.specs.Field.{Field, arena, class, size, emptyLimit, coldLimit, word, words, ok, put}
@@ -31,21 +33,21 @@ put-off : (b : List ℕ) (f : Field) (v i : ℕ) → ok f ≡ true → heapWord 
 unfolding put
 put-off b f v i o e = getD-set-other b (word f) i _ 0 (λ z. true≢false (sym (field-in f o) ∙ ap heapWord (sym z) ∙ e))
 
-ruled-off : (b : List ℕ) (rules : Rules) (k i : ℕ) → k ≤ 76 → heapWord i ≡ false → getD (ruled b rules k) i 0 ≡ getD b i 0
+ruled-off : (b : List ℕ) (rules : Rules) (k i : ℕ) → k ≤ classRows → heapWord i ≡ false → getD (ruled b rules k) i 0 ≡ getD b i 0
 unfolding ruled
 ruled-off b rules zero i h e = refl
 ruled-off b rules (suc k) i h e =
-    put-off _ (class coldLimit k) _ i (lt-ltb k 76 (omega arith)) e ∙ put-off _ (class emptyLimit k) _ i (lt-ltb k 76 (omega arith)) e ∙ ruled-off b rules k i (omega arith) e
+    put-off _ (class coldLimit k) _ i (lt-ltb k classRows (omega arith)) e ∙ put-off _ (class emptyLimit k) _ i (lt-ltb k classRows (omega arith)) e ∙ ruled-off b rules k i (omega arith) e
 
 module _ (n : ℕ) (rules : Rules) (b : List ℕ) (long : leb (words n) (length b) ≡ true) where
-  opened-count : (c : ℕ) → ltb c 76 ≡ true → countIn (opened n rules b) c ≡ 0
+  opened-count : (c : ℕ) → ltb c classCount ≡ true → countIn (opened n rules b) c ≡ 0
   unfolding countIn opened headWords
   opened-count c hc =
       let e = count-word c hc in
-      let lo = ltb-true c 76 hc in
-      ruled-off _ rules 76 (countAt c) (omega arith) e ∙ put-off (cleared b 768) (arena size) n (countAt c) refl e ∙ cleared-at b 768 (countAt c) (omega (arith, leb-true (words n) (length b) long)) (omega arith)
+      let lo = ltb-true c classCount hc in
+      ruled-off _ rules classRows (countAt c) (omega arith) e ∙ put-off (cleared b 768) (arena size) n (countAt c) refl e ∙ cleared-at b 768 (countAt c) (omega (arith, leb-true (words n) (length b) long)) (omega arith)
 
-  opened-stock : (c : ℕ) → ltb c 76 ≡ true → StockRep n (opened n rules b) c []
+  opened-stock : (c : ℕ) → ltb c classCount ≡ true → StockRep n (opened n rules b) c []
   opened-stock c hc =
       let z = opened-count c hc in
       record {

@@ -6,7 +6,7 @@ use Rattle.facts.proofs.Prelude.{ℕ, zero, suc, _+_, _-_, _*_, _/_, _%_, _≤_
 use Rattle.facts.proofs.Prelude.{head-eq-of-cons-eq, tail-eq-of-cons-eq, _≡_, refl, sym, ap, ap₂, _∙_, subst, eqb, ltb, length, getD, length-set}
 use Rattle.facts.proofs.Prelude.{lt-ltb, le-ltb, ltb-true, ltb-false, eq-eqb, eqb-true, eqb-false, le-leb, elem, by-cases, bool-eq, and-left, and-right}
 use Rattle.words.specs.Word.{blockWord, granuleOf}
-use Rattle.classes.specs.Shape.{shapeOf}
+use Rattle.classes.specs.Shape.{shapeOf, classCount}
 use Rattle.fields.specs.Field.{words, read}
 use Rattle.fields.proofs.Changes.{Changes, changes-none, changes-trans}
 use Rattle.pool.specs.Stock.{countMax}
@@ -41,15 +41,15 @@ stock-kept n b b′ c st r p e l = record {
 }
 
 -- the pool's words are not the heap's
-pub count-word : (c : ℕ) → ltb c 76 ≡ true → heapWord (countAt c) ≡ false
+pub count-word : (c : ℕ) → ltb c classCount ≡ true → heapWord (countAt c) ≡ false
 unfolding heapWord
 count-word c hc =
-    let lo = ltb-true c 76 hc in
+    let lo = ltb-true c classCount hc in
     rw (lt-ltb (countAt c) 40000 (omega arith), lt-ltb (countAt c) 9216 (omega arith), le-leb 160 (countAt c) (omega arith), lt-ltb (countAt c) 768 (omega arith), eq-eqb (countAt c % 8) 7 (omega arith))
 
-pub entry-word : (c k : ℕ) → ltb c 76 ≡ true → k < 256 → heapWord (entryAt c k) ≡ false
+pub entry-word : (c k : ℕ) → ltb c classCount ≡ true → k < 256 → heapWord (entryAt c k) ≡ false
 unfolding heapWord
-entry-word c k hc l = let lo = ltb-true c 76 hc in rw (lt-ltb (entryAt c k) 40000 (omega arith), le-ltb (entryAt c k) 9216 (omega arith))
+entry-word c k hc l = let lo = ltb-true c classCount hc in rw (lt-ltb (entryAt c k) 40000 (omega arith), le-ltb (entryAt c k) 9216 (omega arith))
 
 places-at : (a u : ℕ) → u < 1024 → ofPlaces ((42320 + 4112 * a + u - 40000) % 4112) ≡ true
 places-at a u l =
@@ -62,15 +62,15 @@ pub place-word : (g : ℕ) → heapWord (placeAt g) ≡ false
 unfolding heapWord
 place-word g = rw (le-ltb (placeAt g) 40000 (omega arith), places-at (g / 4096) (g % 4096 / 4) (omega arith))
 
-pub changes-count : (b : List ℕ) (c k : ℕ) → ltb c 76 ≡ true → Changes (λ f. false) b (putCount b c k)
+pub changes-count : (b : List ℕ) (c k : ℕ) → ltb c classCount ≡ true → Changes (λ f. false) b (putCount b c k)
 unfolding putCount
 changes-count b c k hc = set-changes b (countAt c) k (count-word c hc)
 
-pub changes-put : (b : List ℕ) (c k g : ℕ) → ltb c 76 ≡ true → k < 256 → Changes (λ f. false) b (put b c k g)
+pub changes-put : (b : List ℕ) (c k g : ℕ) → ltb c classCount ≡ true → k < 256 → Changes (λ f. false) b (put b c k g)
 unfolding putEntry putPlace
 changes-put b c k g hc l = changes-trans (λ f. false) b (putEntry b c k g) (put b c k g) (set-changes b (entryAt c k) g (entry-word c k hc l)) (set-changes (putEntry b c k g) (placeAt g) _ (place-word g))
 
-pub stock-still : (n : ℕ) (b b′ : List ℕ) (c : ℕ) (st : List ℕ) → ltb c 76 ≡ true → ((i : ℕ) → heapWord i ≡ false → getD b′ i 0 ≡ getD b i 0) → StockRep n b c st → StockRep n b′ c st
+pub stock-still : (n : ℕ) (b b′ : List ℕ) (c : ℕ) (st : List ℕ) → ltb c classCount ≡ true → ((i : ℕ) → heapWord i ≡ false → getD b′ i 0 ≡ getD b i 0) → StockRep n b c st → StockRep n b′ c st
 unfolding countIn entryIn placeIn
 stock-still n b b′ c st hc h r =
     stock-kept n b b′ c st r (h (countAt c) (count-word c hc))
@@ -87,7 +87,7 @@ whole-part : (n : ℕ) (b : List ℕ) (c : ℕ) (st : List ℕ) → StockRep n b
 whole-part n b c st r = record { same = r .same; low = r .low; placed = r .placed }
 
 -- COUNT is m
-module _ (n : ℕ) (b : List ℕ) (c : ℕ) (hc : ltb c 76 ≡ true) (m : ℕ) where
+module _ (n : ℕ) (b : List ℕ) (c : ℕ) (hc : ltb c classCount ≡ true) (m : ℕ) where
   pub counted-own : 40000 ≤ length b → m ≤ countMax → (st : List ℕ) → PartRep n b c m st → StockRep n (putCount b c m) c st
   counted-own long few st r =
       let b′ = putCount b c m in
@@ -106,7 +106,7 @@ below-of : (j m : ℕ) → j < suc m → (j ≡ m → ⊥) → j < m
 below-of j m h ne = by-cases (ltb j m) (λ t. ltb-true j m t) (λ t. absurd (ne (let u = ltb-false j m t in omega arith)))
 
 -- one more block
-module _ (n : ℕ) (b : List ℕ) (long : words n ≤ length b) (c : ℕ) (hc : ltb c 76 ≡ true) (m : ℕ) (hm : m < countMax) (g : ℕ) (lg : g < 4096 * n) where
+module _ (n : ℕ) (b : List ℕ) (long : words n ≤ length b) (c : ℕ) (hc : ltb c classCount ≡ true) (m : ℕ) (hm : m < countMax) (g : ℕ) (lg : g < 4096 * n) where
   abbrev b₁ : List ℕ
   b₁ = putEntry b c m g
 
@@ -141,7 +141,7 @@ module _ (n : ℕ) (b : List ℕ) (long : words n ≤ length b) (c : ℕ) (hc : 
       }
 
   -- another class's stock, which has no block there
-  module _ (d : ℕ) (hd : ltb d 76 ≡ true) (e : eqb d c ≡ false) where
+  module _ (d : ℕ) (hd : ltb d classCount ≡ true) (e : eqb d c ≡ false) where
     pub put-count : countIn (put b c m g) d ≡ countIn b d
     put-count = count-place b₁ g m d hd ∙ count-entry b c hc m hm′ g d hd
 
@@ -168,7 +168,7 @@ top-of n b c w ws r = go (countIn b c) refl (r .same)
     go zero e s = let z : _≡_ {A = ℕ} 0 1 = cc in absurd (omega arith)
     go (suc m) e s = record { left = m; count = e; top = head-eq-of-cons-eq s; rest = tail-eq-of-cons-eq s }
 
-module _ (n : ℕ) (b : List ℕ) (long : words n ≤ length b) (c : ℕ) (hc : ltb c 76 ≡ true) where
+module _ (n : ℕ) (b : List ℕ) (long : words n ≤ length b) (c : ℕ) (hc : ltb c classCount ≡ true) where
   pub pop-own : (w : ℕ) (ws : List ℕ) → StockRep n b c (w ∷ ws) → StockRep n (putCount b c (countIn b c - 1)) c ws
   pop-own w ws r =
       let t = top-of n b c w ws r in
@@ -183,7 +183,7 @@ module _ (n : ℕ) (b : List ℕ) (long : words n ≤ length b) (c : ℕ) (hc : 
         counted-own n (put b c (countIn b c) g) c hc (suc (countIn b c)) (omega (arith, long-put n b long c hc (countIn b c) hk g lg)) (omega arith) (blockWord (shapeOf c .kind) g ∷ st)
         (part-put n b long c hc (countIn b c) hk g lg st (whole-part n b c st r) out)
 
-    pub push-other : (d : ℕ) → ltb d 76 ≡ true → eqb d c ≡ false → (st : List ℕ) → StockRep n b d st → ((j : ℕ) → j < countIn b d → entryIn b d j ≡ g → ⊥) → StockRep n (pushed b c g) d st
+    pub push-other : (d : ℕ) → ltb d classCount ≡ true → eqb d c ≡ false → (st : List ℕ) → StockRep n b d st → ((j : ℕ) → j < countIn b d → entryIn b d j ≡ g → ⊥) → StockRep n (pushed b c g) d st
     push-other d hd e st r far = counted-other n (put b c (countIn b c) g) c hc (suc (countIn b c)) d st e (put-other n b long c hc (countIn b c) hk g lg d hd e st r far)
 
 -- ---- a take's blocks: the class's, in the arena, and none of them twice or in the stock so far
@@ -191,7 +191,7 @@ abbrev pub Fresh : ℕ → ℕ → List ℕ → List ℕ → Type 0
 Fresh n c st [] = Unit {0}
 Fresh n c st (w ∷ ws) = (w ≡ blockWord (shapeOf c .kind) (granuleOf w)) × (granuleOf w < 4096 * n) × (elem w st ≡ false) × Fresh n c (w ∷ st) ws
 
-module _ (n c : ℕ) (hc : ltb c 76 ≡ true) where
+module _ (n c : ℕ) (hc : ltb c classCount ≡ true) where
   all-put : (ws : List ℕ) (b : List ℕ) (m : ℕ) (st : List ℕ) → words n ≤ length b → m + length ws ≤ countMax → PartRep n b c m st → Fresh n c st ws
       → (length (putAll b c m ws) ≡ length b) × PartRep n (putAll b c m ws) c (m + length ws) (reverseAux ws st)
   all-put [] b m st l f r z = (refl, subst (λ j. PartRep n b c j st) (omega arith) r)
@@ -217,7 +217,7 @@ module _ (n c : ℕ) (hc : ltb c 76 ≡ true) where
       counted-own n (putAll b c 0 ws) c hc (length ws) (omega (arith, t .0)) f (reverse ws) (subst (λ j. PartRep n (putAll b c 0 ws) c j (reverse ws)) (omega arith) (t .1))
 
   -- the stock of another class, which has none of the blocks
-  module _ (d : ℕ) (hd : ltb d 76 ≡ true) (e : eqb d c ≡ false) (sd : List ℕ) where
+  module _ (d : ℕ) (hd : ltb d classCount ≡ true) (e : eqb d c ≡ false) (sd : List ℕ) where
     abbrev pub Off : List ℕ → List ℕ → Type 0
     Off b [] = Unit {0}
     Off b (w ∷ ws) = ((j : ℕ) → j < countIn b d → entryIn b d j ≡ granuleOf w → ⊥) × Off b ws

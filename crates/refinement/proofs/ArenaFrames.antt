@@ -10,7 +10,7 @@ use Rattle.rules.specs.declared.Limits.{Limits}
 use Rattle.model.specs.Cover.{inRun}
 use Rattle.model.specs.Heap.{direct}
 use Rattle.arena.specs.Owners.{ownerCode}
-use Rattle.words.specs.Limits.{holeSlots}
+use Rattle.words.specs.Limits.{holeSlots, classRows}
 use Rattle.classes.specs.declared.Shape.{Shape}
 use Rattle.fields.specs.Field.{Field, arena, class, hole, page, mark, out, slot, ClassField, owner, first, frontier, held, arenaOff, pageOff, get, put, words, emptyLimit, coldLimit}
 use Rattle.fields.proofs.Clear.{changes-row, get-row}
@@ -52,10 +52,10 @@ inRunOf m none x = false
 inRunOf m (some q) x = inRun m q x
 
 module _ (t : ℕ → Bool) (b b′ : List ℕ) (h : Changes (isStep t) b b′) where
-  pub step-row : (k : ClassField) (c : ℕ) → ltb c 76 ≡ true → get b′ (class k c) ≡ get b (class k c)
+  pub step-row : (k : ClassField) (c : ℕ) → ltb c classRows ≡ true → get b′ (class k c) ≡ get b (class k c)
   step-row k c o = h .kept (class k c) o refl
 
-  pub step-rule : (c : ℕ) {lim : Limits} → ltb c 76 ≡ true → RuleRep b c lim → RuleRep b′ c lim
+  pub step-rule : (c : ℕ) {lim : Limits} → ltb c classRows ≡ true → RuleRep b c lim → RuleRep b′ c lim
   step-rule c o = rule-kept (step-row emptyLimit c o) (step-row coldLimit c o)
 
   pub step-first : (x : ℕ) → get b′ (page first x) ≡ get b (page first x)

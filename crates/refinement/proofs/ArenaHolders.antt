@@ -1,8 +1,9 @@
 -- After every history a page is held by nobody, by the direct calls, or by one of the 76 classes.
 use Rattle.facts.proofs.Prelude.{ℕ, _+_, _-_, arith, Bool, true, false, cond, List, [], _∷_, some, Option·none-ne-some, _≡_, refl, sym, ap, eqb, ltb, ltb-true, lt-ltb, by-cases}
+use Rattle.words.specs.Limits.{classRows}
 use Rattle.rules.specs.Rules.{Rules}
 use Rattle.model.specs.Cover.{covers, coversAll, coversRun}
-use Rattle.classes.specs.Shape.{shapeOf}
+use Rattle.classes.specs.Shape.{shapeOf, classCount}
 use Rattle.model.specs.Calls as Calls
 use Rattle.model.specs.Calls.{Call, Request, Named, named, names, Way, hostOf}
 use Rattle.model.specs.Arena.{commit, grow}
@@ -15,7 +16,7 @@ use Rattle.model.proofs.Ways.{Goes, is-turned, is-straight, is-class, goes}
 abbrev pub isKnown : Holder → Bool
 isKnown nobody = true
 isKnown direct = true
-isKnown (class c) = ltb c 76
+isKnown (class c) = ltb c classRows
 
 pub record Known (w : ℕ → Holder) : Type 0 where
   pub at : (y : ℕ) → isKnown (w y) ≡ true
@@ -24,25 +25,35 @@ pub known-passed : (who : Holder) (g : ℕ → ℕ) (w : ℕ → Holder) → isK
 known-passed who g w e k = record { at = λ y. by-cases (eqb (g y) 0) (λ d. rw d (k .at y)) (λ d. rw d e) }
 
 -- ---- a call that names a class names one of ours
-named-below : (t : Bool) (c : ℕ) (r : Request) (d : Named) → (t ≡ true → ltb c 76 ≡ true) → named t c r ≡ some d → ltb (d .class) 76 ≡ true
+named-below : (t : Bool) (c : ℕ) (r : Request) (d : Named) → (t ≡ true → ltb c classCount ≡ true) → named t c r ≡ some d → ltb (d .class) classCount ≡ true
 named-below true c r d h e = rw (sym (at c r d e)) (h refl)
   where
     at : (c : ℕ) (r : Request) (d : Named) → some (record { class = c; request = r }) ≡ some d → c ≡ d .class
     at c r d e = let z : record { class = c; request = r } ≡ d = cc in ap (λ x. x .class) z
 named-below false c r d h e = absurd (Option·none-ne-some d e)
 
-pub small-class : (c : ℕ) → ltb c 64 ≡ true → ltb c 76 ≡ true
-small-class c e = lt-ltb c 76 (let z = ltb-true c 64 e in omega arith)
+-- a class that a caller names has a row
+pub row-known : (c : ℕ) → ltb c classCount ≡ true → ltb c classRows ≡ true
+row-known c e = lt-ltb c classRows (omega (arith, ltb-true c classCount e))
 
-pub medium-class : (c : ℕ) → ltb c 12 ≡ true → ltb (64 + c) 76 ≡ true
-medium-class c e = lt-ltb (64 + c) 76 (let z = ltb-true c 12 e in omega arith)
+small-named : (c : ℕ) → ltb c 64 ≡ true → ltb c classCount ≡ true
+small-named c e = lt-ltb c classCount (let z = ltb-true c 64 e in omega arith)
 
-pub names-below : (x : Call) (d : Named) → names x ≡ some d → ltb (d .class) 76 ≡ true
-names-below (Calls.takeBlocks c h l) d e = named-below (ltb c 64) c _ d (small-class c) e
-names-below (Calls.mediumTakeBlocks c h l) d e = named-below (ltb c 12) (64 + c) _ d (medium-class c) e
-names-below (Calls.releaseBlocks c h ws) d e = named-below (ltb c 64) c _ d (small-class c) e
-names-below (Calls.mediumReleaseBlocks c h ws) d e = named-below (ltb c 12) (64 + c) _ d (medium-class c) e
-names-below (Calls.releaseBinChunks c h ws gs fs) d e = named-below (ltb c 64) c _ d (small-class c) e
+medium-named : (c : ℕ) → ltb c 12 ≡ true → ltb (64 + c) classCount ≡ true
+medium-named c e = lt-ltb (64 + c) classCount (let z = ltb-true c 12 e in omega arith)
+
+pub small-class : (c : ℕ) → ltb c 64 ≡ true → ltb c classRows ≡ true
+small-class c e = row-known c (small-named c e)
+
+pub medium-class : (c : ℕ) → ltb c 12 ≡ true → ltb (64 + c) classRows ≡ true
+medium-class c e = row-known (64 + c) (medium-named c e)
+
+pub names-below : (x : Call) (d : Named) → names x ≡ some d → ltb (d .class) classCount ≡ true
+names-below (Calls.takeBlocks c h l) d e = named-below (ltb c 64) c _ d (small-named c) e
+names-below (Calls.mediumTakeBlocks c h l) d e = named-below (ltb c 12) (64 + c) _ d (medium-named c) e
+names-below (Calls.releaseBlocks c h ws) d e = named-below (ltb c 64) c _ d (small-named c) e
+names-below (Calls.mediumReleaseBlocks c h ws) d e = named-below (ltb c 12) (64 + c) _ d (medium-named c) e
+names-below (Calls.releaseBinChunks c h ws gs fs) d e = named-below (ltb c 64) c _ d (small-named c) e
 names-below (Calls.commit h m) d e = absurd (Option·none-ne-some d e)
 names-below (Calls.growFrontier h q old new) d e = absurd (Option·none-ne-some d e)
 names-below (Calls.release h q m) d e = absurd (Option·none-ne-some d e)
@@ -87,7 +98,7 @@ module _ (n : ℕ) (H : Heap) (k : Known (H .holder)) where
   direct-known (Calls.contains o b) = same _
   direct-known Calls.report = same _
 
-  class-known : (c : ℕ) (r : Request) → ltb c 76 ≡ true → KnownAfter (classCall n H c r)
+  class-known : (c : ℕ) (r : Request) → ltb c classRows ≡ true → KnownAfter (classCall n H c r)
   unfolding classCall interact finish
   class-known c r e =
       let sh = shapeOf c in
@@ -99,7 +110,7 @@ module _ (n : ℕ) (H : Heap) (k : Known (H .holder)) where
   route-known : (x : Call) {w : Way} → Goes x w → KnownAfter (route n H x w)
   route-known x (is-turned t) = same _
   route-known x (is-straight t e) = direct-known x
-  route-known x (is-class d t e) = class-known (d .class) (d .request) (names-below x d e)
+  route-known x (is-class d t e) = class-known (d .class) (d .request) (row-known (d .class) (names-below x d e))
 
   pub known-step : (x : Call) → Known (step n H x .heap .holder)
   unfolding step

@@ -4,6 +4,7 @@
 --     class-left    a class whose run in no list was given: that page is gone, the rest is as it was; other-class-left: another class
 use Rattle.facts.proofs.Prelude.{ℕ, _+_, _≤_, arith, Bool, true, false, cond, List, [], _∷_, _≡_, refl, _∙_, eqb, ltb, eq-eqb, ne-eqb}
 use native.Mathlib.Decide.{ℕ-discrete}
+use Rattle.words.specs.Limits.{classRows}
 use Rattle.model.specs.Cover.{inRun, covers}
 use Rattle.classes.specs.declared.Shape.{Shape}
 use Rattle.classes.specs.way.Sound.{Sound}
@@ -32,12 +33,12 @@ module _ (t : ℕ → Bool) (b b′ : List ℕ) (h : Changes (isStep t) b b′) 
     run = w;
   }
 
-  pub step-class : {n c : ℕ} {sh : Shape} {k : Park} {ps xs ys fs : List Page} → Sound sh → ltb c 76 ≡ true → ((x : ℕ) → whole n b′ sh c x ≡ whole n b sh c x)
+  pub step-class : {n c : ℕ} {sh : Shape} {k : Park} {ps xs ys fs : List Page} → Sound sh → ltb c classRows ≡ true → ((x : ℕ) → whole n b′ sh c x ≡ whole n b sh c x)
       → ClassRep n b c sh k ps xs ys fs → ClassRep n b′ c sh k ps xs ys fs
   step-class {c = c} sound hc same r = class-kept sound r (λ f. step-row t b b′ h f c hc) same (λ x e. step-keeps (same x ∙ e))
 
 -- ---- a class's run is given
-module _ (n : ℕ) (b : List ℕ) (H : Heap) (rep : ArenaRep n b H) (r : Reached n H) (c : ℕ) (hc : ltb c 76 ≡ true) {sh : Shape} (sound : Sound sh)
+module _ (n : ℕ) (b : List ℕ) (H : Heap) (rep : ArenaRep n b H) (r : Reached n H) (c : ℕ) (hc : ltb c classRows ≡ true) {sh : Shape} (sound : Sound sh)
     {k : Park} {ps xs ys fs : List Page} (p : Page)
     (cr : ClassRep n b c sh k ps xs ys (p ∷ fs)) (holds : (x : ℕ) → covers (sh .pages) (p .first) x ≤ isHeld (H .holder x)) where
   changed : Changes (isStep (inRun (sh .pages) (p .first))) b (given b (p .first) (sh .pages))
@@ -70,7 +71,7 @@ module _ (n : ℕ) (b : List ℕ) (H : Heap) (rep : ArenaRep n b H) (r : Reached
         | no e ↦ rw (others c sound x (λ z. e)) (let o : _≡_ {A = ℕ} (cond (eqb x (p .first)) 1 0) 0 = rw (ne-eqb x (p .first) e) in omega (arith, cr .runs x))
       ])
 
-  pub other-class-left : (d : ℕ) {sh′ : Shape} {k′ : Park} {ps′ xs′ ys′ fs′ : List Page} → Sound sh′ → ltb d 76 ≡ true → (d ≡ c → ⊥)
+  pub other-class-left : (d : ℕ) {sh′ : Shape} {k′ : Park} {ps′ xs′ ys′ fs′ : List Page} → Sound sh′ → ltb d classRows ≡ true → (d ≡ c → ⊥)
       → ClassRep n b d sh′ k′ ps′ xs′ ys′ fs′ → ClassRep n (given b (p .first) (sh .pages)) d sh′ k′ ps′ xs′ ys′ fs′
   other-class-left d sound′ hd ne cr′ =
       step-class (inRun (sh .pages) (p .first)) b (given b (p .first) (sh .pages)) changed sound′ hd (λ x. others d sound′ x (λ z. absurd (ne z))) cr′

@@ -6,6 +6,7 @@
 --     left-whole, left-gone         a class's run is given: it is not whole any more, the others are as before
 use Rattle.facts.proofs.Prelude.{ℕ, suc, _+_, _≤_, _<_, arith, Bool, true, false, cond, _&&_, List, _≡_, refl, sym, _∙_, eqb, ltb, leb, eqb·zero-suc}
 use Rattle.facts.proofs.Prelude.{ltb-true, ltb-false, ne-eqb, eqb-true, eqb-false, le-leb, lt-ltb, leb-true, by-cases, and-left, and-right}
+use Rattle.words.specs.Limits.{classRows}
 use Rattle.model.specs.Cover.{inRun, covers, coversRun}
 use Rattle.classes.specs.declared.Shape.{Shape}
 use Rattle.fields.specs.Field.{arena, page, owner, first, frontier, get}
@@ -30,8 +31,8 @@ use Rattle.refinement.proofs.GiveRep.{run-ends, give-rep}
 abbrev pub isOf : ℕ → Holder → Bool
 isOf d w = eqb (ownerCode w) (suc d)
 
-pub direct-other : (d : ℕ) → ltb d 76 ≡ true → isOf d direct ≡ false
-direct-other d h = ne-eqb (ownerCode direct) (suc d) (λ e. let z = ltb-true d 76 h in omega arith)
+pub direct-other : (d : ℕ) → ltb d classRows ≡ true → isOf d direct ≡ false
+direct-other d h = ne-eqb (ownerCode direct) (suc d) (λ e. let z = ltb-true d classRows h in omega arith)
 
 pub nobody-other : (d : ℕ) → isOf d nobody ≡ false
 nobody-other d = eqb·zero-suc d
@@ -185,7 +186,7 @@ module _ (n : ℕ) (b : List ℕ) (H : Heap) (rep : ArenaRep n b H) (r : Reached
       sh d x some-page o
 
 -- a growth, for a class
-pub grow-whole : (n : ℕ) (b : List ℕ) (H : Heap) → ArenaRep n b H → Reached n H → (h m : ℕ) → 1 ≤ m → (e : ℕ) (sh : Shape) (d x : ℕ) → 1 ≤ sh .pages → ltb d 76 ≡ true
+pub grow-whole : (n : ℕ) (b : List ℕ) (H : Heap) → ArenaRep n b H → Reached n H → (h m : ℕ) → 1 ≤ m → (e : ℕ) (sh : Shape) (d x : ℕ) → 1 ≤ sh .pages → ltb d classRows ≡ true
     → whole n (growBook n b h e m (H .arena)) sh d x ≡ whole n b sh d x
 grow-whole n b H rep r h m one e sh d x some-page hd =
     let g = grow n h e m (H .arena) in

@@ -4,6 +4,7 @@
 --     Stands               it stands for a reached heap whose class c has state t
 use Rattle.facts.proofs.Prelude.{ℕ, arith, true, false, List, _≡_, sym, subst, ltb, eq-eqb, ne-eqb, le-ltb, update}
 use native.Mathlib.Decide.{ℕ-discrete}
+use Rattle.words.specs.Limits.{classRows}
 use Rattle.classes.specs.Shape.{shapeOf}
 use Rattle.classes.proofs.Shapes.{shape-sound}
 use Rattle.fields.specs.Field.{arena, frontier, get}
@@ -20,8 +21,8 @@ use Rattle.refinement.proofs.Kept.{other-class-kept}
 
 -- every class but c, and c
 pub classes-with : (n : ℕ) (b : List ℕ) (H : Heap) (c : ℕ) (s : Class) → StateRep n b c (shapeOf c) s
-    → ((d : ℕ) → ltb d 76 ≡ true → (d ≡ c → ⊥) → StateRep n b d (shapeOf d) (H .classes d))
-    → (d : ℕ) → ltb d 76 ≡ true → StateRep n b d (shapeOf d) (update (H .classes) c s d)
+    → ((d : ℕ) → ltb d classRows ≡ true → (d ≡ c → ⊥) → StateRep n b d (shapeOf d) (H .classes d))
+    → (d : ℕ) → ltb d classRows ≡ true → StateRep n b d (shapeOf d) (update (H .classes) c s d)
 classes-with n b H c s new others d hd =
     elim (ℕ-discrete d c) [
       | yes e ↦ rw (eq-eqb d c e) (subst (λ (k : ℕ). StateRep n b k (shapeOf k) s) (sym e) new)
@@ -29,11 +30,11 @@ classes-with n b H c s new others d hd =
     ]
 
 -- a class whose state is known by another name
-pub state-as : {n : ℕ} {b : List ℕ} {H : Heap} {c : ℕ} {t : Class} → Represents n b H → ltb c 76 ≡ true → H .classes c ≡ t → StateRep n b c (shapeOf c) t
+pub state-as : {n : ℕ} {b : List ℕ} {H : Heap} {c : ℕ} {t : Class} → Represents n b H → ltb c classRows ≡ true → H .classes c ≡ t → StateRep n b c (shapeOf c) t
 state-as {n} {b} {H} {c} R hc e = subst (λ (t : Class). StateRep n b c (shapeOf c) t) e (R .classes c hc)
 
 module _ (n : ℕ) (b : List ℕ) (H : Heap) (R : Represents n b H) where
-  pub setting-of : (c : ℕ) → ltb c 76 ≡ true → Setting n b c (shapeOf c)
+  pub setting-of : (c : ℕ) → ltb c classRows ≡ true → Setting n b c (shapeOf c)
   setting-of c hc = record { long = R .arena .long; row = hc; shape = shape-sound c }
 
   module _ (ok : Reached n H) where
@@ -53,10 +54,10 @@ pub record Stands (n : ℕ) (b : List ℕ) (c : ℕ) (t : Class) : Type 0 where
   pub heap : Heap
   pub represents : Represents n b heap
   pub reached : Reached n heap
-  pub row : ltb c 76 ≡ true
+  pub row : ltb c classRows ≡ true
   pub state : heap .classes c ≡ t
 
-abbrev pub stands : {n : ℕ} {b : List ℕ} {H : Heap} {c : ℕ} {t : Class} → Represents n b H → Reached n H → ltb c 76 ≡ true → H .classes c ≡ t → Stands n b c t
+abbrev pub stands : {n : ℕ} {b : List ℕ} {H : Heap} {c : ℕ} {t : Class} → Represents n b H → Reached n H → ltb c classRows ≡ true → H .classes c ≡ t → Stands n b c t
 stands {H = H} R ok hc e = record { heap = H; represents = R; reached = ok; row = hc; state = e }
 
 module _ {n : ℕ} {b : List ℕ} {c : ℕ} {t : Class} (B : Stands n b c t) where

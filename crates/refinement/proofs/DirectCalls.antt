@@ -4,6 +4,7 @@
 --     direct-represents    every call that names no class, on the whole book
 use Rattle.facts.proofs.Prelude.{ℕ, suc, _+_, _-_, _≤_, _<_, arith, Bool, true, false, cond, not, _&&_, _||_, false≢true, List, _≡_, refl, sym, ap, eqb, ltb, leb}
 use Rattle.facts.proofs.Prelude.{leb-true, leb-false, ltb-true, ne-eqb, not-false, every, below, by-cases, and-left, and-right, nor-left, every-at, every-cong}
+use Rattle.words.specs.Limits.{classRows}
 use Rattle.model.specs.Cover.{inRun, covers}
 use Rattle.classes.specs.declared.Shape.{Shape}
 use Rattle.classes.specs.Shape.{shapeOf}
@@ -36,13 +37,13 @@ use Rattle.refinement.proofs.Reported.{Classes, report-passes, parked-s
 record LeavesClasses (n : ℕ) (b b′ : List ℕ) : Type 0 where
   pages : ℕ → Bool
   changes : Changes (isStep pages) b b′
-  runs : (sh : Shape) (d x : ℕ) → 1 ≤ sh .pages → ltb d 76 ≡ true → whole n b′ sh d x ≡ whole n b sh d x
+  runs : (sh : Shape) (d x : ℕ) → 1 ≤ sh .pages → ltb d classRows ≡ true → whole n b′ sh d x ≡ whole n b sh d x
 
 -- ---- number 12
 is-direct : (w : Holder) → isKnown w ≡ true → eqb (ownerCode w) (ownerCode direct) ≡ isDirect w
 is-direct nobody e = refl
 is-direct direct e = refl
-is-direct (class c) e = ne-eqb (suc c) (ownerCode direct) (λ z. let l = ltb-true c 76 e in omega arith)
+is-direct (class c) e = ne-eqb (suc c) (ownerCode direct) (λ z. let l = ltb-true c classRows e in omega arith)
 
 pub direct-held : (w : Holder) → isDirect w ≡ true → 1 ≤ isHeld w
 direct-held nobody e = absurd (false≢true e)
@@ -152,7 +153,7 @@ module _ (n : ℕ) (b : List ℕ) (H : Heap) (rep : ArenaRep n b H) (r : Reached
         rules = refl;
       }))))
 
-  direct-not : (d : ℕ) (w : Holder) → ltb d 76 ≡ true → isDirect w ≡ true → isOf d w ≡ false
+  direct-not : (d : ℕ) (w : Holder) → ltb d classRows ≡ true → isDirect w ≡ true → isOf d w ≡ false
   direct-not d nobody hd e = absurd (false≢true e)
   direct-not d direct hd e = direct-other d hd
   direct-not d (class c) hd e = absurd (false≢true e)

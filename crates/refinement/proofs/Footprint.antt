@@ -2,6 +2,7 @@
 --     footprint-home          a class's steps keep to its own words
 --     off-home, off-arena, off-page    those of another class, and the arena's, to the other words
 use Rattle.facts.proofs.Prelude.{ℕ, suc, _+_, _-_, _*_, _/_, _≤_, _<_, arith, true, false, List, _≡_, sym, _∙_, eqb, ltb, eq-eqb, ne-eqb, lt-ltb, le-ltb, ltb-true, by-cases}
+use Rattle.words.specs.Limits.{classRows}
 use Rattle.classes.specs.declared.Shape.{Shape}
 use Rattle.classes.specs.way.Sound.{Sound}
 use Rattle.fields.specs.Field.{page, owner, pair, get}
@@ -23,7 +24,7 @@ pair-at q j l = omega arith
 row-at : (c j : ℕ) → j < 7 → (160 + 8 * c + j) / 8 ≡ 20 + c
 row-at c j l = omega arith
 
-module _ (n : ℕ) (b : List ℕ) (sh : Shape) (c : ℕ) (hc : ltb c 76 ≡ true) where
+module _ (n : ℕ) (b : List ℕ) (sh : Shape) (c : ℕ) (hc : ltb c classRows ≡ true) where
   low-footprint : (i : ℕ) → i < 40000 → footprint n b sh c i ≡ eqb (i / 8) (20 + c)
   unfolding footprint
   low-footprint i l = rw (lt-ltb i 40000 l)
@@ -62,7 +63,7 @@ module _ (n : ℕ) (b : List ℕ) (sh : Shape) (c : ℕ) (hc : ltb c 76 ≡ true
   pub not-whole : Sound sh → (q w : ℕ) → get b (page owner q) ≡ w → (w ≡ suc c → ⊥) → whole n b sh c q ≡ false
   not-whole ok q w o ne = by-cases (whole n b sh c q) (λ e. absurd (ne (sym o ∙ whole-owner n b ok c q e))) (λ e. e)
 
-  pub off-home : Sound sh → (d : ℕ) → ltb d 76 ≡ true → (d ≡ c → ⊥) → {sh′ : Shape} → Sound sh′ → Home (off n b sh c) n b d sh′
+  pub off-home : Sound sh → (d : ℕ) → ltb d classRows ≡ true → (d ≡ c → ⊥) → {sh′ : Shape} → Sound sh′ → Home (off n b sh c) n b d sh′
   off-home ok d hd ne ok′ = record {
     row = record { words = λ j l. low-off (160 + 8 * d + j) (omega (arith, ltb-true)) (λ z. ne (omega arith)) };
     pages = λ q e. off-page q (not-whole ok q (suc d) (whole-owner n b ok′ d q e) (λ z. ne (omega arith)));

@@ -4,6 +4,7 @@
 --     Only         a change of one class's fields only
 --     isData q     the fields that say what the blocks of the run at q are
 use Rattle.facts.proofs.Prelude.{ℕ, suc, Bool, true, false, cond, _&&_, _||_, List, [], _∷_, _≡_, refl, _∙_, eqb, ltb, leb, eqb·zero-suc, length, lt-ltb, by-cases}
+use Rattle.words.specs.Limits.{classRows}
 use Rattle.classes.specs.declared.Shape.{Shape}
 use Rattle.fields.specs.Field.{Field, arena, class, hole, page, mark, slot, out, owner, pageOff, get, emptyLimit, coldLimit, classOff}
 use Rattle.rules.specs.declared.Limits.{Limits}
@@ -49,7 +50,7 @@ pub rule-kept : {b b′ : List ℕ} {c : ℕ} {lim : Limits} → get b′ (class
     → RuleRep b c lim → RuleRep b′ c lim
 rule-kept e k r = record { same = rw (e, k) (r .same); fit = r .fit }
 
-pub only-rule : (d : ℕ) {b b′ : List ℕ} → Only d b b′ → (c : ℕ) {lim : Limits} → ltb c 76 ≡ true → RuleRep b c lim → RuleRep b′ c lim
+pub only-rule : (d : ℕ) {b b′ : List ℕ} → Only d b b′ → (c : ℕ) {lim : Limits} → ltb c classRows ≡ true → RuleRep b c lim → RuleRep b′ c lim
 only-rule d h c hc = rule-kept (h .kept (class emptyLimit c) hc (eqb·zero-suc d)) (h .kept (class coldLimit c) hc (eqb·zero-suc d))
 
 -- FREE, CARVED and VIRGIN, the stack and the out bits

@@ -5,6 +5,7 @@
 use Rattle.facts.proofs.Prelude.{ℕ, suc, _+_, _≤_, _<_, arith, true, false, false≢true, List, _∷_, map, _≡_, refl, sym, _∙_, subst, eqb}
 use Rattle.facts.proofs.Prelude.{ltb, leb, eqb·zero-suc, eq-eqb, ne-eqb, ltb-true, leb-true, update, by-cases, and-left, and-right}
 use native.Mathlib.Decide.{ℕ-discrete}
+use Rattle.words.specs.Limits.{classRows}
 use Rattle.model.specs.Cover.{inRun, covers}
 use Rattle.classes.specs.declared.Shape.{Shape}
 use Rattle.classes.specs.Shape.{shapeOf}
@@ -72,7 +73,7 @@ run-held n b H rep sh c q e x =
     (λ t. rw t (omega arith))
 
 -- ---- the book b is the represented one but for words of class c, which lets its page p go
-module _ (n : ℕ) (b₀ : List ℕ) (H : Heap) (rep : Represents n b₀ H) (r : Reached n H) (c : ℕ) (hc : ltb c 76 ≡ true) (b : List ℕ) (only : Only c b₀ b) (s : Class) (p : Page)
+module _ (n : ℕ) (b₀ : List ℕ) (H : Heap) (rep : Represents n b₀ H) (r : Reached n H) (c : ℕ) (hc : ltb c classRows ≡ true) (b : List ℕ) (only : Only c b₀ b) (s : Class) (p : Page)
     (cr : ClassRep n b c (shapeOf c) Empty (s .partial) (map (reused (shapeOf c)) (s .empty)) (map (thawed (shapeOf c)) (s .cold)) (p ∷ s .full)) where
   rep′ : ArenaRep n b H
   rep′ = arena-only n b₀ b H c r only (rep .arena)

@@ -5,7 +5,7 @@ use Rattle.facts.proofs.Prelude.{ap, _∙_, subst, eqb, ltb, leb, length, eq-eq
 use native.Mathlib.Decide.{ℕ-discrete}
 use Rattle.rules.specs.declared.Limits.{Limits}
 use Rattle.model.specs.Cover.{inRun, covers, coversRun}
-use Rattle.words.specs.Limits.{holeSlots}
+use Rattle.words.specs.Limits.{holeSlots, classRows}
 use Rattle.classes.specs.declared.Shape.{Shape}
 use Rattle.classes.specs.Shape.{shapeOf}
 use Rattle.classes.proofs.Shapes.{shape-sound}
@@ -72,7 +72,7 @@ new-lets q m =
 arena-lets : (q m : ℕ) → LetsNew (λ g. not (isArenas g)) q m
 arena-lets q m = record { starts = λ y l u. refl; listing = refl; free = refl; carved = refl; virgin = refl; slots = λ i. refl; outs = λ i. refl; marks = λ j. refl }
 
-module _ (n : ℕ) (b : List ℕ) (H : Heap) (R : Represents n b H) (ok : Reached n H) (c : ℕ) (hc : ltb c 76 ≡ true) (h : ℕ) where
+module _ (n : ℕ) (b : List ℕ) (H : Heap) (R : Represents n b H) (ok : Reached n H) (c : ℕ) (hc : ltb c classRows ≡ true) (h : ℕ) where
   abbrev pages : ℕ
   pages = shapeOf c .pages
 
@@ -103,10 +103,10 @@ module _ (n : ℕ) (b : List ℕ) (H : Heap) (R : Represents n b H) (ok : Reache
     pub none-arena : (cs : ℕ → Class) → ArenaRep n after (heapOf (H .rules) (grant .arena) (H .holder) cs)
     none-arena cs = subst (λ (o : Option ℕ). ArenaRep n after (heapOf (H .rules) (grant .arena) (passTo (class c) (coversRun pages o) (H .holder)) cs)) e (rep₁ cs)
 
-    pub none-rule : (d : ℕ) {lim : Limits} → ltb d 76 ≡ true → RuleRep b d lim → RuleRep after d lim
+    pub none-rule : (d : ℕ) {lim : Limits} → ltb d classRows ≡ true → RuleRep b d lim → RuleRep after d lim
     none-rule = step-rule owned b after changes
 
-    pub none-stays : (d : ℕ) → ltb d 76 ≡ true → {k : Park} {ps xs ys fs : List Page} → ClassRep n b d (shapeOf d) k ps xs ys fs → ClassRep n after d (shapeOf d) k ps xs ys fs
+    pub none-stays : (d : ℕ) → ltb d classRows ≡ true → {k : Park} {ps xs ys fs : List Page} → ClassRep n b d (shapeOf d) k ps xs ys fs → ClassRep n after d (shapeOf d) k ps xs ys fs
     none-stays d hd r =
         let law = commit-law n h pages (H .arena) in
         step-class owned b after changes (shape-sound d) hd
@@ -180,13 +180,13 @@ module _ (n : ℕ) (b : List ℕ) (H : Heap) (R : Represents n b H) (ok : Reache
           run = w;
         }
 
-    row : (f : Field.ClassField) (d : ℕ) → ltb d 76 ≡ true → get new (Field.class f d) ≡ get b (Field.class f d)
+    row : (f : Field.ClassField) (d : ℕ) → ltb d classRows ≡ true → get new (Field.class f d) ≡ get b (Field.class f d)
     row f d hd = joined .kept (Field.class f d) hd refl
 
-    pub new-rule : (d : ℕ) {lim : Limits} → ltb d 76 ≡ true → RuleRep b d lim → RuleRep new d lim
+    pub new-rule : (d : ℕ) {lim : Limits} → ltb d classRows ≡ true → RuleRep b d lim → RuleRep new d lim
     new-rule d hd = rule-kept (row Field.emptyLimit d hd) (row Field.coldLimit d hd)
 
-    pub others-stay : (d : ℕ) → ltb d 76 ≡ true → (d ≡ c → ⊥) → {k : Park} {ps xs ys fs : List Page} → ClassRep n b d (shapeOf d) k ps xs ys fs
+    pub others-stay : (d : ℕ) → ltb d classRows ≡ true → (d ≡ c → ⊥) → {k : Park} {ps xs ys fs : List Page} → ClassRep n b d (shapeOf d) k ps xs ys fs
         → ClassRep n new d (shapeOf d) k ps xs ys fs
     others-stay d hd ne r =
         class-kept (shape-sound d) r (λ f. row f d hd) (λ x. same d x (λ z. absurd (ne z))) (λ x w. new-keeps x (apart d x w) (same d x (λ z. absurd (ne z)) ∙ w))

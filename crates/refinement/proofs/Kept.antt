@@ -6,6 +6,7 @@
 --     other-class-kept    what changes only words of class d leaves every other class alone
 use Rattle.facts.proofs.Prelude.{ℕ, suc, _+_, _≤_, arith, Bool, true, false, cond, List, [], _∷_, _++_, inl, inr, _≡_, refl}
 use Rattle.facts.proofs.Prelude.{ap, _∙_, eqb, ltb, leb, eqb·zero-suc, ne-eqb, lt-ltb, ltb-true, All, count, by-cases}
+use Rattle.words.specs.Limits.{classRows}
 use Rattle.classes.specs.declared.Shape.{Shape}
 use Rattle.classes.specs.way.Sound.{Sound}
 use Rattle.fields.specs.Field.{ClassField, class, page, partial, owner, next, prev, free, carved, listed, virgin, get, classOff}
@@ -132,7 +133,7 @@ module _ (c d : ℕ) (ne : c ≡ d → ⊥) {b b′ : List ℕ} (h : Only d b b�
     run = w;
   }
 
-pub other-class-kept : {n : ℕ} {b b′ : List ℕ} (c d : ℕ) {sh : Shape} {k : Park} {ps xs ys fs : List Page} → Sound sh → ltb c 76 ≡ true → (c ≡ d → ⊥)
+pub other-class-kept : {n : ℕ} {b b′ : List ℕ} (c d : ℕ) {sh : Shape} {k : Park} {ps xs ys fs : List Page} → Sound sh → ltb c classRows ≡ true → (c ≡ d → ⊥)
     → Only d b b′ → ClassRep n b c sh k ps xs ys fs → ClassRep n b′ c sh k ps xs ys fs
 other-class-kept {n} {b} c d {sh} sound row ne h r =
     let own = only-owns d h in

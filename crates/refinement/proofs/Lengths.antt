@@ -1,5 +1,6 @@
 -- Every call of a class leaves a book of the same length, where the book stands for a reached heap. n is at most the longest arena.
 use Rattle.facts.proofs.Prelude.{ℕ, suc, _≤_, true, List, [], _∷_, Option, none, some, _≡_, refl, sym, _∙_, ltb, length, by-cases}
+use Rattle.words.specs.Limits.{classRows}
 use Rattle.classes.specs.Shape.{shapeOf}
 use Rattle.classes.proofs.Shapes.{shape-sound}
 use Rattle.fields.specs.Ranges.{maxPages}
@@ -33,8 +34,8 @@ use Rattle.refinement.proofs.ArenaHolders.{small-class}
 
 -- the classes that a request may be made of: group releases are the small classes'
 abbrev pub Ours : ℕ → Request → Type 0
-Ours c (take h l) = ltb c 76 ≡ true
-Ours c (giveBack h ws) = ltb c 76 ≡ true
+Ours c (take h l) = ltb c classRows ≡ true
+Ours c (giveBack h ws) = ltb c classRows ≡ true
 Ours c (giveChunks h ws gs fs) = ltb c 64 ≡ true
 
 -- ---- gives
@@ -52,7 +53,7 @@ ends-long B (Releases.did {r = r} a) = rw (a .gives ∙ sym (a .named)) (gives-l
 
 module _ (n : ℕ) (hn : n ≤ maxPages) (b : List ℕ) (H : Heap) (R : Represents n b H) (ok : Reached n H) (c : ℕ) where
   -- ---- takes
-  module _ (hc : ltb c 76 ≡ true) (h : ℕ) (l : List ℕ) where
+  module _ (hc : ltb c classRows ≡ true) (h : ℕ) (l : List ℕ) where
     new-long : (fs : List Page) → ClassRep n b c (shapeOf c) Empty [] [] [] fs → length (takeNew n b c (shapeOf c) h l .book) ≡ length b
     unfolding takeNew onRun
     new-long fs z = rw (commit-for n b H (R .arena) ok h (shapeOf c .pages) (suc c)) (go (commit n h (shapeOf c .pages) (H .arena) .run) refl)

@@ -3,6 +3,7 @@
 --     stack-parked, stack-popped       a store, with a page on top, and without its newest
 use Rattle.facts.proofs.Prelude.{ℕ, zero, suc, _+_, _-_, _<_, arith, add-one, true, false, List, [], _∷_, _++_, _⊎_, inl, inr}
 use Rattle.facts.proofs.Prelude.{⊎-elim, _≡_, refl, sym, ap, subst, _∙_, eqb, ltb, leb, length, ltb-true, lt-ltb, ne-eqb}
+use Rattle.words.specs.Limits.{classRows}
 use Rattle.fields.specs.Field.{class, page, partial, next, prev, words, get}
 use Rattle.fields.proofs.Laws.{get-put-same, get-put-other, length-put}
 use Rattle.fields.proofs.Changes.{Changes}
@@ -16,7 +17,7 @@ use Rattle.refinement.proofs.Kept.{line-kept}
 use Rattle.refinement.proofs.Links.{isLink, link-lets, link-changes, unlink-changes, link-next, link-prev}
 
 -- ---- a page at the head of the partial list
-module _ (n : ℕ) (b : List ℕ) (hb : leb (words n) (length b) ≡ true) (c q : ℕ) (hc : ltb c 76 ≡ true) (hq : ltb q n ≡ true) where
+module _ (n : ℕ) (b : List ℕ) (hb : leb (words n) (length b) ≡ true) (c q : ℕ) (hc : ltb c classRows ≡ true) (hq : ltb q n ≡ true) where
   head-linked : get (link b c q) (class partial c) ≡ suc q
   unfolding link linked
   head-linked = simp (get-put-same n, get-put-other, length-put, length-putAt, hb, add-one)
@@ -69,7 +70,7 @@ module _ (n : ℕ) (b : List ℕ) (hb : leb (words n) (length b) ≡ true) (c q 
   }
 
 -- ---- a page out of the partial list; x is the code of the page behind it, y that of the page before it
-module _ (n : ℕ) (b : List ℕ) (hb : leb (words n) (length b) ≡ true) (c q : ℕ) (hc : ltb c 76 ≡ true) where
+module _ (n : ℕ) (b : List ℕ) (hb : leb (words n) (length b) ≡ true) (c q : ℕ) (hc : ltb c classRows ≡ true) where
   abbrev x : ℕ
   x = get b (page next q)
 
@@ -150,7 +151,7 @@ module _ (n : ℕ) (b : List ℕ) (hb : leb (words n) (length b) ≡ true) (c q 
       }
 
 -- ---- the stores
-module _ (n : ℕ) (b : List ℕ) (hb : leb (words n) (length b) ≡ true) (c q : ℕ) (hc : ltb c 76 ≡ true) (hq : ltb q n ≡ true) where
+module _ (n : ℕ) (b : List ℕ) (hb : leb (words n) (length b) ≡ true) (c q : ℕ) (hc : ltb c classRows ≡ true) (hq : ltb q n ≡ true) where
   top-popped : (k : Park) → get (popStore b c k q) (class (top k) c) ≡ get b (page next q)
   unfolding popStore
   top-popped Empty = simp (get-put-same n, get-put-other)

@@ -4,6 +4,7 @@
 --     isParkRun        a store's row, and NEXT of q
 --     LetsLink, LetsParkRun    what a test must let pass for these moves to be changes of that test
 use Rattle.facts.proofs.Prelude.{ℕ, suc, Bool, true, false, _&&_, _||_, List, _≡_, refl, eqb, ltb, eq-eqb, ne-eqb, or-right}
+use Rattle.words.specs.Limits.{classRows}
 use Rattle.fields.specs.Field.{Field, arena, class, hole, page, mark, slot, out, partial, owner, next, prev, listed, classOff, pageOff, get}
 use Rattle.fields.proofs.Changes.{Changes}
 use Rattle.pages.specs.declared.Park.{Park}
@@ -57,7 +58,7 @@ class-lets b c q x y o behind before =
       listing = mine;
     }
 
-module _ (t : Field → Bool) (b : List ℕ) (c q : ℕ) (row : ltb c 76 ≡ true) where
+module _ (t : Field → Bool) (b : List ℕ) (c q : ℕ) (row : ltb c classRows ≡ true) where
   pub link-changes : LetsLink t c q (get b (class partial c)) 0 → Changes t b (link b c q)
   link-changes l = changes-link t b c q row (l .head refl) (l .fore) (l .back) (l .listing) (l .behind)
 
@@ -81,11 +82,11 @@ module _ {b b′ : List ℕ} (c q x y : ℕ) (h : Changes (isLink c q x y) b b�
   pub link-prev : (z : ℕ) → (z ≡ q → ⊥) → (x ≡ suc z → ⊥) → get b′ (page prev z) ≡ get b (page prev z)
   link-prev z d e = h .kept (page prev z) refl (rw (ne-eqb z q d, ne-eqb x (suc z) e))
 
-  pub link-top : ltb c 76 ≡ true → (k : Park) → get b′ (class (top k) c) ≡ get b (class (top k) c)
+  pub link-top : ltb c classRows ≡ true → (k : Park) → get b′ (class (top k) c) ≡ get b (class (top k) c)
   link-top row Empty = h .kept (class (top Empty) c) row refl
   link-top row Cold = h .kept (class (top Cold) c) row refl
 
-  pub link-stored : ltb c 76 ≡ true → (k : Park) → get b′ (class (stored k) c) ≡ get b (class (stored k) c)
+  pub link-stored : ltb c classRows ≡ true → (k : Park) → get b′ (class (stored k) c) ≡ get b (class (stored k) c)
   link-stored row Empty = h .kept (class (stored Empty) c) row refl
   link-stored row Cold = h .kept (class (stored Cold) c) row refl
 
@@ -112,7 +113,7 @@ pub class-lets-park-run : (b : List ℕ) (k : Park) (c q : ℕ) → get b (page 
 class-lets-park-run b Empty c q o = record { newest = eq-eqb (suc c) (suc c) refl; number = eq-eqb (suc c) (suc c) refl; fore = eq-eqb _ _ o }
 class-lets-park-run b Cold c q o = record { newest = eq-eqb (suc c) (suc c) refl; number = eq-eqb (suc c) (suc c) refl; fore = eq-eqb _ _ o }
 
-module _ (t : Field → Bool) (b : List ℕ) (c q : ℕ) (row : ltb c 76 ≡ true) (k : Park) (l : LetsParkRun t k c q) where
+module _ (t : Field → Bool) (b : List ℕ) (c q : ℕ) (row : ltb c classRows ≡ true) (k : Park) (l : LetsParkRun t k c q) where
   pub park-run-changes : Changes t b (parkRun b c k q)
   park-run-changes = changes-park-run t b c q row k (l .newest) (l .number) (l .fore)
 
@@ -144,7 +145,7 @@ module _ {b b′ : List ℕ} (k : Park) (c q : ℕ) (h : Changes (isParkRun k c 
   stored-row Empty = refl
   stored-row Cold = refl
 
-  module _ (row : ltb c 76 ≡ true) where
+  module _ (row : ltb c classRows ≡ true) where
     pub park-run-partial : get b′ (class partial c) ≡ get b (class partial c)
     park-run-partial = h .kept (class partial c) row (partial-row k)
 

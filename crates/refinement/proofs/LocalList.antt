@@ -1,6 +1,7 @@
 -- A release by list on two books that stand for one state of its class: refused on both, or settled alike.
 --     list-local     the release keeps to the class's words, and the arena's where it gives
 use Rattle.facts.proofs.Prelude.{ℕ, _≤_, Bool, true, List, [], _∷_, _⊎_, _≡_, refl, ap, ltb, ne-eqb}
+use Rattle.words.specs.Limits.{classRows}
 use Rattle.classes.specs.Shape.{shapeOf}
 use Rattle.fields.specs.Ranges.{maxPages}
 use Rattle.model.specs.Class.{done}
@@ -19,7 +20,7 @@ use Rattle.refinement.proofs.LocalGives.{Roams, runs-local}
 use Rattle.refinement.proofs.LocalBack as One
 use Rattle.refinement.proofs.LocalBack.{overrideReleased}
 
-module _ {S : ℕ → Bool} (n : ℕ) (hn : n ≤ maxPages) (b : List ℕ) (H : Heap) (R : Represents n b H) (ok : Reached n H) (c : ℕ) (hc : ltb c 76 ≡ true) (hm : Home S n b c (shapeOf c)) (d : List ℕ) where
+module _ {S : ℕ → Bool} (n : ℕ) (hn : n ≤ maxPages) (b : List ℕ) (H : Heap) (R : Represents n b H) (ok : Reached n H) (c : ℕ) (hc : ltb c classRows ≡ true) (hm : Home S n b c (shapeOf c)) (d : List ℕ) where
   abbrev B : Stands n b c (H .classes c)
   B = stands R ok hc refl
 

@@ -1,6 +1,7 @@
 -- A take that asks the arena keeps to the class's words, the arena's, and those of the pages that nobody holds.
 use Rattle.facts.proofs.Prelude.{ℕ, suc, _+_, _-_, _<_, arith, Bool, true, List, [], _∷_, Option, none, some, _≡_, refl, sym, _∙_, subst, ltb, le-leb, lt-ltb}
 use native.Mathlib.Decide.{ℕ-discrete}
+use Rattle.words.specs.Limits.{classRows}
 use Rattle.classes.specs.Shape.{shapeOf}
 use Rattle.classes.proofs.Shapes.{shape-sound}
 use Rattle.fields.specs.Field.{arena, frontier}
@@ -24,7 +25,7 @@ use Rattle.refinement.proofs.Override.{override, PageIn}
 use Rattle.refinement.proofs.LocalFill.{Home, home-only, link-local, fill-local}
 use Rattle.refinement.proofs.LocalArena.{ArenaIn, RunIn, committed-in, new-in}
 
-module _ {S : ℕ → Bool} (n : ℕ) (b : List ℕ) (H : Heap) (R : Represents n b H) (ok : Reached n H) (c : ℕ) (hc : ltb c 76 ≡ true) (hm : Home S n b c (shapeOf c)) (d : List ℕ)
+module _ {S : ℕ → Bool} (n : ℕ) (b : List ℕ) (H : Heap) (R : Represents n b H) (ok : Reached n H) (c : ℕ) (hc : ltb c classRows ≡ true) (hm : Home S n b c (shapeOf c)) (d : List ℕ)
     (ai : ArenaIn S) (idle : (x : ℕ) → (x < H .arena .frontier → H .holder x ≡ nobody) → PageIn S x) (h : ℕ) (l : List ℕ) (fs : List Page)
     (z : ClassRep n b c (shapeOf c) Empty [] [] [] fs) where
   abbrev grant : Given

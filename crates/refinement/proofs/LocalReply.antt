@@ -3,6 +3,7 @@
 --     reply-local     a class's call on two books put together, from one state of the class
 --     books           the two orders
 use Rattle.facts.proofs.Prelude.{ℕ, suc, _≤_, _<_, arith, Bool, true, false, List, [], _⊎_, inl, inr, _≡_, refl, sym, _∙_, subst, eqb, ltb, length, eqb-false, by-cases}
+use Rattle.words.specs.Limits.{classRows}
 use Rattle.classes.specs.Shape.{shapeOf}
 use Rattle.classes.proofs.Shapes.{shape-sound}
 use Rattle.fields.specs.Ranges.{maxPages}
@@ -38,7 +39,7 @@ use Rattle.refinement.proofs.Lengths.{Ours, reply-long}
 use Rattle.refinement.specs.way.Footprint.{footprint, off}
 use Rattle.refinement.proofs.Footprint.{footprint-home, off-home, off-arena, off-page}
 
-pub ours-row : (c : ℕ) (x : Request) → Ours c x → ltb c 76 ≡ true
+pub ours-row : (c : ℕ) (x : Request) → Ours c x → ltb c classRows ≡ true
 ours-row c (take h l) e = e
 ours-row c (giveBack h ws) e = e
 ours-row c (giveChunks h ws gs fs) e = small-class c e
@@ -88,7 +89,7 @@ module _ (n : ℕ) (hn : n ≤ maxPages) (b : List ℕ) (H : Heap) (R : Represen
     (lc : Listed (shapeOf c) (H .classes c)) (ld : Listed (shapeOf d) (H .classes d)) (home : StaysHome (answer (shapeOf c) (H .rules c) (H .classes c) x))
     (Hx Hy : Heap) (Rx : Represents n (classReply n b c x .book) Hx) (okx : Reached n Hx) (Ry : Represents n (classReply n b d y .book) Hy) (oky : Reached n Hy)
     (arena : Hx .arena ≡ H .arena) (sameD : Hx .classes d ≡ H .classes d) (sameC : Hy .classes c ≡ H .classes c) where
-  row : ltb c 76 ≡ true
+  row : ltb c classRows ≡ true
   row = ours-row c x ox
 
   apart : d ≡ c → ⊥

@@ -4,6 +4,7 @@
 --     opened-represents    the whole
 use Rattle.facts.proofs.Prelude.{ℕ, zero, suc, _+_, _≤_, _<_, arith, Bool, true, false, _&&_, List, _≡_, refl, sym, ap, _∙_, eqb, ltb, leb, length, getD}
 use Rattle.facts.proofs.Prelude.{length-set, getD-set-same, getD-set-other, eqb-true, eqb-false, leb-true, lt-leb, ltb-true, lt-ltb, total, below, by-cases, and-no}
+use Rattle.words.specs.Limits.{classRows}
 use Rattle.classes.specs.Shape.{shapeOf}
 use Rattle.classes.proofs.Shapes.{shape-sound}
 use Rattle.rules.specs.declared.Limits.{Limits}
@@ -40,16 +41,16 @@ cleared-at b (suc k) i l u =
 abbrev isRule : Field → Bool
 isRule g = eqb (region g) 2 && leb 5 (off g)
 
-pub ruled-changes : (b : List ℕ) (rules : Rules) (k : ℕ) → k ≤ 76 → Changes isRule b (ruled b rules k)
+pub ruled-changes : (b : List ℕ) (rules : Rules) (k : ℕ) → k ≤ classRows → Changes isRule b (ruled b rules k)
 unfolding ruled
 ruled-changes b rules zero l = changes-none isRule b
 ruled-changes b rules (suc k) l =
-    let o = lt-ltb k 76 (omega arith) in
+    let o = lt-ltb k classRows (omega arith) in
     let b₁ = ruled b rules k in
     changes-put isRule b (put b₁ (class emptyLimit k) (rules k .empty)) (class coldLimit k) (rules k .cold) o refl
     (changes-put isRule b b₁ (class emptyLimit k) (rules k .empty) o refl (ruled-changes b rules k (omega arith)))
 
-limited-here : (n : ℕ) (b : List ℕ) → leb (words n) (length b) ≡ true → (c : ℕ) (lim : Limits) → ltb c 76 ≡ true → limitsAt (limited b c lim) c ≡ lim
+limited-here : (n : ℕ) (b : List ℕ) → leb (words n) (length b) ≡ true → (c : ℕ) (lim : Limits) → ltb c classRows ≡ true → limitsAt (limited b c lim) c ≡ lim
 limited-here n b hb c lim hc =
     let b₁ = put b (class emptyLimit c) (lim .empty) in
     rw (
@@ -58,7 +59,7 @@ limited-here n b hb c lim hc =
       get-put-same n b₁ (class coldLimit c) (lim .cold) (rw (length-put b (class emptyLimit c) (lim .empty)) hb) hc refl,
     )
 
-limited-there : (b : List ℕ) (k c : ℕ) (lim : Limits) → ltb k 76 ≡ true → ltb c 76 ≡ true → eqb k c ≡ false → limitsAt (limited b k lim) c ≡ limitsAt b c
+limited-there : (b : List ℕ) (k c : ℕ) (lim : Limits) → ltb k classRows ≡ true → ltb c classRows ≡ true → eqb k c ≡ false → limitsAt (limited b k lim) c ≡ limitsAt b c
 limited-there b k c lim hk hc ne =
     let b₁ = put b (class emptyLimit k) (lim .empty) in
     rw (
@@ -68,17 +69,17 @@ limited-there b k c lim hk hc ne =
       get-put-other b (class emptyLimit k) (class coldLimit c) (lim .empty) hk hc refl,
     )
 
-ruled-at : (n : ℕ) (b : List ℕ) → leb (words n) (length b) ≡ true → (rules : Rules) (k c : ℕ) → k ≤ 76 → c < k → limitsAt (ruled b rules k) c ≡ rules c
+ruled-at : (n : ℕ) (b : List ℕ) → leb (words n) (length b) ≡ true → (rules : Rules) (k c : ℕ) → k ≤ classRows → c < k → limitsAt (ruled b rules k) c ≡ rules c
 unfolding ruled
 ruled-at n b hb rules zero c l u = absurd (omega arith)
 ruled-at n b hb rules (suc k) c l u =
     let b₁ = ruled b rules k in
-    let hk = lt-ltb k 76 (omega arith) in
+    let hk = lt-ltb k classRows (omega arith) in
     by-cases (eqb k c)
     (λ e. let z : k ≡ c = eqb-true k c e in
     rw (← z) (limited-here n b₁ (rw (ruled-changes b rules k (omega arith) .long) hb) k (rules k) hk))
     (λ e. let z : k ≡ c → ⊥ = eqb-false k c e in
-    limited-there b₁ k c (rules k) hk (lt-ltb c 76 (omega arith)) e ∙ ruled-at n b hb rules k c (omega arith) (omega (arith, z)))
+    limited-there b₁ k c (rules k) hk (lt-ltb c classRows (omega arith)) e ∙ ruled-at n b hb rules k c (omega arith) (omega (arith, z)))
 
 module _ (n : ℕ) (rules : Rules) (b : List ℕ) (long : leb (words n) (length b) ≡ true) where
   enough : headWords ≤ length b
@@ -94,15 +95,15 @@ module _ (n : ℕ) (rules : Rules) (b : List ℕ) (long : leb (words n) (length 
 
   limiting : Changes isRule head (opened n rules b)
   unfolding opened head
-  limiting = ruled-changes (put (cleared b headWords) (arena size) n) rules 76 (omega arith)
+  limiting = ruled-changes (put (cleared b headWords) (arena size) n) rules classRows (omega arith)
 
   -- every field before the holes but LENGTH and the limits
   opened-zero : (g : Field) → ok g ≡ true → isRule g ≡ false → same (arena size) g ≡ false → word g < 768 → get (opened n rules b) g ≡ read (part g) 0
   unfolding head headWords get
   opened-zero g o r d l = limiting .kept g o r ∙ get-put-other (cleared b 768) (arena size) g n refl o d ∙ ap (read (part g)) (cleared-at b 768 (word g) enough l)
 
-  opened-row : (k : ClassField) (c : ℕ) → ltb c 76 ≡ true → isRule (class k c) ≡ false → classOff k < 8 → get (opened n rules b) (class k c) ≡ 0
-  opened-row k c o r l = opened-zero (class k c) o r refl (omega (arith, ltb-true c 76 o))
+  opened-row : (k : ClassField) (c : ℕ) → ltb c classRows ≡ true → isRule (class k c) ≡ false → classOff k < 8 → get (opened n rules b) (class k c) ≡ 0
+  opened-row k c o r l = opened-zero (class k c) o r refl (omega (arith, ltb-true c classRows o))
 
   opened-long : leb (words n) (length (opened n rules b)) ≡ true
   opened-long = rw (limiting .long) head-long
@@ -141,7 +142,7 @@ module _ (n : ℕ) (rules : Rules) (b : List ℕ) (long : leb (words n) (length 
   none-whole c q =
       rw (opened-zero (arena frontier) refl refl refl (omega arith), lt-leb (q + shapeOf c .pages) 0 (omega (arith, shape-sound c .paged))) (and-no (leb (q + shapeOf c .pages) n))
 
-  pub opened-class : (c : ℕ) → ltb c 76 ≡ true → StateRep n (opened n rules b) c (shapeOf c) newClass
+  pub opened-class : (c : ℕ) → ltb c classRows ≡ true → StateRep n (opened n rules b) c (shapeOf c) newClass
   opened-class c hc = record {
     chain = record { links = opened-row partial c hc refl (omega arith); distinct = tt; below = λ x i. absurd i };
     store = record { line = opened-row empty c hc refl (omega arith); number = opened-row emptyCount c hc refl (omega arith); few = omega arith };
@@ -153,9 +154,9 @@ module _ (n : ℕ) (rules : Rules) (b : List ℕ) (long : leb (words n) (length 
     runs = λ q. rw (none-whole c q);
   }
 
-  opened-rule : (c : ℕ) → ltb c 76 ≡ true → limitsAt (opened n rules b) c ≡ rules c
+  opened-rule : (c : ℕ) → ltb c classRows ≡ true → limitsAt (opened n rules b) c ≡ rules c
   unfolding opened head
-  opened-rule c hc = ruled-at n (put (cleared b headWords) (arena size) n) head-long rules 76 c (omega arith) (ltb-true c 76 hc)
+  opened-rule c hc = ruled-at n (put (cleared b headWords) (arena size) n) head-long rules classRows c (omega arith) (ltb-true c classRows hc)
 
   pub opened-represents : ((c : ℕ) → Fit (rules c)) → Represents n (opened n rules b) (newHeap rules)
   unfolding newHeap

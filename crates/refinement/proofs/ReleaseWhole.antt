@@ -6,6 +6,7 @@
 --     release-after     the same after any history
 use Rattle.facts.proofs.Prelude.{ℕ, _≤_, arith, Bool, true, false, cond, not, List, [], _∷_, map, some, _≡_, refl, sym}
 use Rattle.facts.proofs.Prelude.{ap, _∙_, eqb, ltb, length, ne-eqb, not-false, every, distinct, count, by-cases, and-left}
+use Rattle.words.specs.Limits.{classRows}
 use Rattle.classes.specs.Shape.{shapeOf}
 use Rattle.rules.specs.declared.Limits.{Limits}
 use Rattle.rules.specs.Rules.{Rules}
@@ -76,7 +77,7 @@ module _ {n c : ℕ} {t : Class} (hn : n ≤ maxPages) (h : ℕ) {b b′ : List 
       (λ u. rw u (f (x .site) (found-at (state-rep B) (x .found)) u (λ v. distinct-count v us once)))
       (λ u. rw u (none 11 refl)))))
 
-module _ (n : ℕ) (hn : n ≤ maxPages) (b : List ℕ) (H : Heap) (R : Represents n b H) (ok : Reached n H) (c : ℕ) (hc : ltb c 76 ≡ true) (h : ℕ) where
+module _ (n : ℕ) (hn : n ≤ maxPages) (b : List ℕ) (H : Heap) (R : Represents n b H) (ok : Reached n H) (c : ℕ) (hc : ltb c classRows ≡ true) (h : ℕ) where
   settled-ends : (q : ℕ) {w : Released} {y : Settled} → SettledRep n b c (shapeOf c) [] 2 q w y → Ends n b c (H .classes c) (listReply (lastStep (shapeOf c) q w)) (done (listResult y))
   settled-ends q (stays {f = f} ne r o) = rw (ne-eqb f 2 ne) (did (record { pages = []; rep = r; only = o; gives = refl; named = refl }))
   settled-ends q (goes p e r o) = did (record { pages = p ∷ []; rep = r; only = o; gives = refl; named = ap (λ x. x ∷ []) e })
@@ -94,6 +95,6 @@ module _ (n : ℕ) (hn : n ≤ maxPages) (b : List ℕ) (H : Heap) (R : Represen
   release-whole ws = ends-agree B h (release-rep ws)
 
 -- after every history on an arena of n pages
-pub release-after : (n : ℕ) → n ≤ maxPages → (rules : Rules) (xs : List Call) (b : List ℕ) → Represents n b (heapAfter n rules xs) → (c : ℕ) → ltb c 76 ≡ true → (h : ℕ) (ws : List ℕ)
+pub release-after : (n : ℕ) → n ≤ maxPages → (rules : Rules) (xs : List Call) (b : List ℕ) → Represents n b (heapAfter n rules xs) → (c : ℕ) → ltb c classRows ≡ true → (h : ℕ) (ws : List ℕ)
     → Agrees (Represents n) (listReply (releaseBlocks n b c (shapeOf c) h ws)) (classCall n (heapAfter n rules xs) c (Calls.giveBack h ws))
 release-after n hn rules xs b R c hc h ws = release-whole n hn b (heapAfter n rules xs) R (reached-after n rules xs) c hc h ws

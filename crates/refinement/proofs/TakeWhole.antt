@@ -5,6 +5,7 @@
 --     take-after     the same after any history
 use Rattle.facts.proofs.Prelude.{ℕ, zero, suc, _≤_, arith, Bool, true, false, not, _||_, List, [], _∷_, _++_, Option}
 use Rattle.facts.proofs.Prelude.{none, some, _≡_, refl, sym, subst, ltb, length, lt-ltb, isNil, update, by-cases}
+use Rattle.words.specs.Limits.{classRows}
 use Rattle.rules.specs.Rules.{Rules}
 use Rattle.model.specs.Cover.{covers}
 use Rattle.classes.specs.declared.Shape.{Shape}
@@ -55,7 +56,7 @@ carve-more sh q h true = full (sh .capacity) h
     full (suc k) l = refl
 carve-more sh q h false = lt-ltb 0 (sh .capacity) h
 
-module _ (n : ℕ) (b : List ℕ) (H : Heap) (R : Represents n b H) (ok : Reached n H) (c : ℕ) (hc : ltb c 76 ≡ true) where
+module _ (n : ℕ) (b : List ℕ) (H : Heap) (R : Represents n b H) (ok : Reached n H) (c : ℕ) (hc : ltb c classRows ≡ true) where
   -- ---- a take that asks the arena
   module _ (h : ℕ) (l : List ℕ) (fs : List Page) (z : ClassRep n b c (shapeOf c) Empty [] [] [] fs) where
     abbrev grant : Given
@@ -154,6 +155,6 @@ module _ (n : ℕ) (b : List ℕ) (H : Heap) (R : Represents n b H) (ok : Reache
       (frontier-in n b H R ok) (y .partial) (R .classes c hc))))
 
 -- after every history on an arena of n pages
-pub take-after : (n : ℕ) (rules : Rules) (xs : List Call) (b : List ℕ) → Represents n b (heapAfter n rules xs) → (c : ℕ) → ltb c 76 ≡ true → (h : ℕ) (l : List ℕ)
+pub take-after : (n : ℕ) (rules : Rules) (xs : List Call) (b : List ℕ) → Represents n b (heapAfter n rules xs) → (c : ℕ) → ltb c classRows ≡ true → (h : ℕ) (l : List ℕ)
     → Agrees (Represents n) (takeReply (takeCall n b c (shapeOf c) h l)) (classCall n (heapAfter n rules xs) c (Calls.take h l))
 take-after n rules xs b R c hc h l = take-whole n b (heapAfter n rules xs) R (reached-after n rules xs) c hc (yielding n rules xs .listed c) h l

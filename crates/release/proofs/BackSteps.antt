@@ -1,6 +1,7 @@
 -- The listed blocks come back to their page, and the arena is the last step.
 use Rattle.facts.proofs.Prelude.{ℕ, _+_, _≤_, _<_, arith, Bool, true, false, cond, not, _&&_, _||_, List, map, _≡_, refl, sym, ap, _∙_}
 use Rattle.facts.proofs.Prelude.{eqb, leb, length, length-map, leb-true, eqb-true, le-leb, lt-ltb, eq-eqb, ne-eqb, and-left, and-right}
+use Rattle.words.specs.Limits.{classRows}
 use Rattle.classes.specs.declared.Shape.{Shape}
 use Rattle.classes.specs.way.Sound.{Sound}
 use Rattle.fields.specs.Field.{Field, arena, class, hole, page, region, off, frontier, partial, empty, emptyCount, cold, coldCount, next, prev, free, carved, listed, virgin, get, put, words, ok, emptyLimit, coldLimit}
@@ -47,18 +48,18 @@ module _ (b : List ℕ) (q : ℕ) (is : List ℕ) (l : get b (page free q) + len
       let g : leb (words (q + 1)) (length (put b₁ (page virgin q) 0)) ≡ true = rw (length-put b₁ (page virgin q) 0, length-push b q (get b (page free q)) is) (le-leb (words (q + 1)) (length b) h) in
       get-put-same (q + 1) (put b₁ (page virgin q) 0) (page free q) _ g (lt-ltb q (q + 1) (omega arith)) refl
 
-  module _ (c : ℕ) (hc : c < 76) where
+  module _ (c : ℕ) (hc : c < classRows) where
     row-kept : rowValid (pushed b q is) c ≡ rowValid b c
     unfolding rowValid
     row-kept =
         let k = push-changes .kept in
-        let o = lt-ltb c 76 hc in
+        let o = lt-ltb c classRows hc in
         rw (k (class partial c) o refl, k (class empty c) o refl, k (class emptyCount c) o refl, k (class cold c) o refl, k (class coldCount c) o refl, k (class emptyLimit c) o refl, k (class coldLimit c) o refl, k (arena frontier) refl refl)
 
     destination-kept : (sh : Shape) → destinationAt (pushed b q is) c sh ≡ destinationAt b c sh
     destination-kept sh =
         let k = push-changes .kept in
-        let o = lt-ltb c 76 hc in
+        let o = lt-ltb c classRows hc in
         rw (k (class emptyCount c) o refl, k (class coldCount c) o refl, k (class emptyLimit c) o refl, k (class coldLimit c) o refl)
 
 module _ (b : List ℕ) (c : ℕ) (sh : Shape) (h q : ℕ) (ws : List ℕ) where
@@ -91,7 +92,7 @@ module _ (b : List ℕ) (c : ℕ) (sh : Shape) (h q : ℕ) (ws : List ℕ) where
           known = a .known;
           below = a .below;
           there = omega (arith, k .long, a .there);
-          head = rw (k .kept (class partial c) (lt-ltb c 76 (a .known)) refl) (omega (arith, k .long, a .low, head-low b c (a .row)));
+          head = rw (k .kept (class partial c) (lt-ltb c classRows (a .known)) refl) (omega (arith, k .long, a .low, head-low b c (a .row)));
         })
 
     module _ (x y : ℕ) (j : x ≡ get b′ (page carved q)) (k : y ≡ get b′ (page free q)) where
@@ -107,13 +108,13 @@ module _ (b : List ℕ) (c : ℕ) (sh : Shape) (h q : ℕ) (ws : List ℕ) where
 abbrev notArena : Field → Bool
 notArena f = not (eqb (region f) 0 || eqb (region f) 3)
 
-module _ (c : ℕ) (sh : Shape) (h q : ℕ) (hc : c < 76) (s : Sound sh) (g : Field) (o : ok g ≡ true) (u : notArena g ≡ false) (v : moves g ≡ false) (w : onStack g ≡ false) where
+module _ (c : ℕ) (sh : Shape) (h q : ℕ) (hc : c < classRows) (s : Sound sh) (g : Field) (o : ok g ≡ true) (u : notArena g ≡ false) (v : moves g ≡ false) (w : onStack g ≡ false) where
   park-run-kept : (b : List ℕ) → get (parkRun b c Empty q) g ≡ get b g
-  park-run-kept b = changes-park-run notArena b c q (lt-ltb c 76 hc) Empty refl refl refl .kept g o u
+  park-run-kept b = changes-park-run notArena b c q (lt-ltb c classRows hc) Empty refl refl refl .kept g o u
 
   cold-kept : (b : List ℕ) → get (parkCold b c sh h q) g ≡ get b g
   cold-kept b =
-      changes-park-run notArena (carveAnew b sh q (coldVirgin sh h)) c q (lt-ltb c 76 hc) Cold refl refl refl .kept g o u
+      changes-park-run notArena (carveAnew b sh q (coldVirgin sh h)) c q (lt-ltb c classRows hc) Cold refl refl refl .kept g o u
       ∙ carve-changes b c sh h q (coldVirgin sh h) s .kept g o v
 
   in-kept : (b : List ℕ) (t : Destination) → get (parkedIn b c sh h q t) g ≡ get b g

@@ -1,6 +1,7 @@
 -- The ways out of a release of one block that leaves others of its run out.
 use Rattle.facts.proofs.Prelude.{ℕ, _+_, _-_, _*_, _/_, _≤_, _<_, arith, Bool, true, false, cond, not, _&&_, and-false, List, [], _∷_, _≡_, refl}
 use Rattle.facts.proofs.Prelude.{sym, ap, _∙_, eqb, length, getD, eqb-true, eqb-false, lt-ltb, eq-eqb, ne-eqb, not-true, and-left, and-right}
+use Rattle.words.specs.Limits.{classRows}
 use Rattle.classes.specs.declared.Shape.{Shape}
 use Rattle.classes.specs.Shape.{shapeOf}
 use Rattle.fields.specs.Field.{arena, class, page, frontier, partial, out, mark, free, carved, get, put, words, Has}
@@ -105,7 +106,7 @@ module _ (b : List ℕ) (c q i : ℕ) (a : PutPre b c q i) where
 
       pub relist-there : LinkPre b₂ c q
       relist-there =
-          let o = lt-ltb c 76 (a .known) in
+          let o = lt-ltb c classRows (a .known) in
           let h : get b₂ (class partial c) ≡ get b (class partial c) = rw (e₂, push-keeps .kept (class partial c) o refl, e₁) (unmarked-changes .kept (class partial c) o refl) in
           let l : length b₂ ≡ length b = rw e₂ (push-keeps .long ∙ rw e₁ (unmarked-changes .long)) in
           record { known = a .known; below = a .below; there = omega (arith, l, a .there); head = omega (arith, h, l, a .head) }

@@ -3,6 +3,7 @@
 use Rattle.facts.proofs.Prelude.{ℕ, _≤_, _<_, arith, Bool, true, false, cond, _&&_, _||_, and-false, and-true, List}
 use Rattle.facts.proofs.Prelude.{_≡_, refl, sym, _∙_, eqb, leb, leb-true, lt-ltb, eq-eqb, ne-eqb, and-left, and-right}
 use Rattle.words.specs.Host.{discardZeroed}
+use Rattle.words.specs.Limits.{classRows}
 use Rattle.classes.specs.declared.Shape.{Shape}
 use Rattle.classes.specs.way.Sound.{Sound}
 use Rattle.fields.specs.Field.{Field, arena, class, page, region, off, frontier, emptyCount, coldCount, next, prev, listed, get}
@@ -50,20 +51,20 @@ module _ (b : List ℕ) (c q : ℕ) where
         let p = leb-true (get b (page prev q)) (get b (arena frontier)) (and-right (leb (get b (page next q)) (get b (arena frontier))) _ z) in
         record { known = a .known; there = a .there; behind = omega (arith, a .low); before = omega (arith, a .low) }
 
-  pub unlisted-changes : c < 76 → Changes moves b (unlisted b c q)
+  pub unlisted-changes : c < classRows → Changes moves b (unlisted b c q)
   unfolding unlisted
   unlisted-changes h = by (eqb (get b (page listed q)) 1)
     where
       by : (t : Bool) → Changes moves b (cond t (unlink b c q) b)
-      by true = changes-unlink moves b c q (lt-ltb c 76 h) (λ z. refl) (λ z k. refl) (λ z k. refl) refl refl refl
+      by true = changes-unlink moves b c q (lt-ltb c classRows h) (λ z. refl) (λ z k. refl) (λ z k. refl) refl refl refl
       by false = changes-none moves b
 
-  pub relisted-changes : c < 76 → Changes moves b (relisted b c q)
+  pub relisted-changes : c < classRows → Changes moves b (relisted b c q)
   unfolding relisted
   relisted-changes h = by (eqb (get b (page listed q)) 0)
     where
       by : (t : Bool) → Changes moves b (cond t (link b c q) b)
-      by true = changes-link moves b c q (lt-ltb c 76 h) refl refl refl refl (λ z k. refl)
+      by true = changes-link moves b c q (lt-ltb c classRows h) refl refl refl refl (λ z k. refl)
       by false = changes-none moves b
 
 -- ---- cold
@@ -86,7 +87,7 @@ module _ (b : List ℕ) (c : ℕ) (sh : Shape) (h q : ℕ) where
           known = a .known;
           below = a .below;
           there = rw e (omega (arith, k .long, a .there));
-          few = rw e (rw (k .kept (class coldCount c) (lt-ltb c 76 (a .known)) refl) (a .few));
+          few = rw e (rw (k .kept (class coldCount c) (lt-ltb c classRows (a .known)) refl) (a .few));
         }
 
     pub parked-cold : (b″ : List ℕ) → v ≡ coldVirgin sh h → b″ ≡ parkRun b′ c Cold q → b″ ≡ parkCold b c sh h q
@@ -126,8 +127,8 @@ module _ (b : List ℕ) (c : ℕ) (sh : Shape) (h q : ℕ) where
 
 module _ (b : List ℕ) (c : ℕ) (sh : Shape) (q : ℕ) where
   count-kept : ParkingPre b c sh q → (p : Park) → get (unlisted b c q) (class (stored p) c) ≤ maxParked
-  count-kept a Empty = rw (unlisted-changes b c q (a .known) .kept (class emptyCount c) (lt-ltb c 76 (a .known)) refl) (count-low b c Empty (a .row))
-  count-kept a Cold = rw (unlisted-changes b c q (a .known) .kept (class coldCount c) (lt-ltb c 76 (a .known)) refl) (count-low b c Cold (a .row))
+  count-kept a Empty = rw (unlisted-changes b c q (a .known) .kept (class emptyCount c) (lt-ltb c classRows (a .known)) refl) (count-low b c Empty (a .row))
+  count-kept a Cold = rw (unlisted-changes b c q (a .known) .kept (class coldCount c) (lt-ltb c classRows (a .known)) refl) (count-low b c Cold (a .row))
 
   pub store-pre : ParkingPre b c sh q → (s : Destination) → s ≡ destinationAt b c sh → (b′ : List ℕ) → b′ ≡ unlisted b c q → StorePre b′ c sh q
   store-pre a s e b′ k =

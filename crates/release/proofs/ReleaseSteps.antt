@@ -4,6 +4,7 @@
 --     finished          13's last test, and the act
 use Rattle.facts.proofs.Prelude.{ℕ, zero, suc, _+_, _*_, _^_, _≤_, _<_, arith, Bool, true, false, cond, List, [], _∷_, map, _≡_, refl, sym, ap, _∙_, eqb}
 use Rattle.facts.proofs.Prelude.{ltb, length, getD, eqb-true, le-leb, lt-ltb, ltb-true, eq-eqb, ne-eqb, isNil, every, and-left, and-right, every-made}
+use Rattle.words.specs.Limits.{classRows}
 use Rattle.classes.specs.declared.Shape.{Shape}
 use Rattle.classes.specs.way.Sound.{Sound}
 use Rattle.fields.specs.Field.{arena, class, page, frontier, partial, empty, emptyCount, cold, coldCount, first, next, prev, free, carved, listed, virgin, get, words, Has, hole, emptyLimit, coldLimit}
@@ -48,11 +49,11 @@ use Rattle.release.proofs.RunMarks.{fresh-changes, takes-all, clears-ru
 
 -- ---- number 13's last test reads no out bit and no mark
 module _ (b b′ : List ℕ) (h : Changes isBit b b′) where
-  valid-kept : (n c : ℕ) (sh : Shape) (m q : ℕ) → c < 76 → releaseValid n b′ c sh m q ≡ releaseValid n b c sh m q
+  valid-kept : (n c : ℕ) (sh : Shape) (m q : ℕ) → c < classRows → releaseValid n b′ c sh m q ≡ releaseValid n b c sh m q
   unfolding releaseValid pageValid rowValid destinationValid headerValid
   valid-kept n c sh m q hc =
       let k = h .kept in
-      let o = lt-ltb c 76 hc in
+      let o = lt-ltb c classRows hc in
       rw (
         k (arena frontier) refl refl,
         give-kept n b b′ (λ f. k (arena f) refl refl) (λ f j o. k (hole f j) o refl) (sh .pages),

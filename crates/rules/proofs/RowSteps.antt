@@ -147,7 +147,7 @@ module _ (ws : List ℕ) where
   abbrev pub TwoInv : ℕ → Type 0
   TwoInv = ClassesInv (λ c. leb (rowsFor ws c) 1)
 
-  pub two-start : TwoInv 76
+  pub two-start : TwoInv classCount
   two-start = record { within = omega arith; rest = refl }
 
   module _ (k n : ℕ) (h : k ≡ 0 → ⊥) (v : TwoInv k) (e : n ≡ rowsFor ws (k - 1)) where
@@ -165,7 +165,7 @@ module _ (ws : List ℕ) where
   abbrev pub NoneInv : ℕ → Type 0
   NoneInv = ClassesInv (λ c. leb 1 (rowsFor ws c))
 
-  pub none-start : NoneInv 76
+  pub none-start : NoneInv classCount
   none-start = record { within = omega arith; rest = refl }
 
   module _ (k n : ℕ) (h : k ≡ 0 → ⊥) (v : NoneInv k) (e : n ≡ rowsFor ws (k - 1)) where

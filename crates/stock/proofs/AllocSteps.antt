@@ -5,17 +5,18 @@ use Rattle.words.specs.Word.{blockWord}
 use Rattle.classes.specs.Shape.{shapeOf}
 use Rattle.classes.proofs.Shapes.{shape-sound}
 use Rattle.calls.specs.Take.{takeCall}
+use Rattle.take.specs.way.TakePlan as Plan
+use Rattle.take.proofs.TakeSteps.{whole-pre}
 use Rattle.take.specs.declared.call.Take.{Take}
 use Rattle.take.specs.declared.call.Take.the-variants.{Refused, Took}
 use Rattle.take.specs.way.TakeAnswer.{Takes}
-use Rattle.take.specs.way.TakePlan.{CallPre}
 use Rattle.take.proofs.AnswerSteps.{told-refused, told-code, told-count, told-number}
 use Rattle.take.proofs.TakeSpares.{call-spares}
 use Rattle.take.proofs.InArena.{take-in-arena}
 use Rattle.pool.specs.Stock.{blank}
 use Rattle.poolcalls.specs.Stock.{countIn, entryIn, putCount, putAll}
 use Rattle.poolcalls.specs.Calls.{topValid, bringOn, tookOn, allocOn, BlockEnds}
-use Rattle.stock.specs.way.Pre.{ListPre}
+use Rattle.stock.specs.way.Pre.{ListPre, PoolPre}
 use Rattle.stock.specs.way.Ends.{Brings}
 
 -- ---- of m blocks the last is granted
@@ -35,6 +36,9 @@ module _ (b : List ℕ) (c m : ℕ) (l : List ℕ) where
         rw (ne-eqb m 0 some, k) (record { code = refl; block = λ old. g; book = f ∙ ap (λ z. putCount z c (m - 1)) e })
 
 -- ---- a take
+pub take-asks : (n : ℕ) (b : List ℕ) (c h : ℕ) → PoolPre n b c → Plan.ListPre true n b c h
+take-asks n b c h a = whole-pre n b c h (record { known = omega (arith, a .known); few = a .few; long = a .long })
+
 module _ (n : ℕ) (b : List ℕ) (c h : ℕ) (s : Take) (b₁ l : List ℕ) (t : Takes s b₁ l (takeCall n b c (shapeOf c) h blank)) where
   pub refill-refused : (k old : ℕ) → s ≡ Refused k → BlockEnds (tookOn c (takeCall n b c (shapeOf c) h blank)) k b₁ old old
   unfolding tookOn
@@ -47,13 +51,13 @@ module _ (n : ℕ) (b : List ℕ) (c h : ℕ) (s : Take) (b₁ l : List ℕ) (t 
     counted : m ≡ takeCall n b c (shapeOf c) h blank .count
     counted = let x = takeCall n b c (shapeOf c) h blank in told-count (x .code) (x .count) (x .virgin) m v (sym (t .answer) ∙ e)
 
-    pub took-pre : CallPre n b c → ListPre n l m
+    pub took-pre : PoolPre n b c → ListPre n l m
     took-pre a =
         let x = takeCall n b c (shapeOf c) h blank in
         rw (counted, t .list) (record {
           few = call-spares n b c h blank .few;
           there = call-spares n b c h blank .within;
-          low = take-in-arena n (a .few) c (shapeOf c) (shape-sound c) b h blank (a .known) (a .long) .low;
+          low = take-in-arena n (a .few) c (shapeOf c) (shape-sound c) b h blank (omega (arith, a .known)) (a .long) .low;
         })
 
     pub refill-took : (r : ℕ) (b₂ : List ℕ) (old : ℕ) → Brings r b₂ (bringOn b₁ c m l) → BlockEnds (tookOn c (takeCall n b c (shapeOf c) h blank)) 0 b₂ old r

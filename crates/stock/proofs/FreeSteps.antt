@@ -6,12 +6,11 @@ use Rattle.classes.specs.Shape.{shapeOf}
 use Rattle.model.specs.Release.{ofKind}
 use Rattle.calls.specs.Out.{outAt, outFault, unmarked, repeats}
 use Rattle.calls.specs.Release.{releasedNone, releaseBlocks}
-use Rattle.take.specs.way.TakePlan.{CallPre}
 use Rattle.pool.specs.Stock.{stockMost}
 use Rattle.poolcalls.specs.Stock.{countIn, stocked, pushed}
 use Rattle.pool.specs.Pool.{refused, freed}
 use Rattle.poolcalls.specs.Calls.{poolReply, countValid, releasedOn, freedOn, freeOn, FreeEnds}
-use Rattle.stock.specs.way.Pre.{NearPre, FreePre}
+use Rattle.stock.specs.way.Pre.{NearPre, FreePre, PoolPre}
 use Rattle.stock.specs.way.Ends.{ReleasedOne, Kept, farFault, isFull}
 use Rattle.stock.proofs.RoomSteps.{room-limit}
 use Rattle.stock.proofs.QuerySteps.{behind-kind, behind-granule, far-kind, near-kind, far-out}
@@ -35,7 +34,7 @@ module _ (c w x : ℕ) (ex : (x + blockWord (shapeOf c .kind) 0) % 2 ^ 64 ≡ w)
         let s = leb-false (2 ^ 62) x t in
         rw (near-kind c w x ex fit s, far-out c w x ex fit n b l s) (record { code = e ∙ rw t; book = refl }))
 
-    pub free-near : CallPre n b c → x < 4096 * n → NearPre n b c x w
+    pub free-near : PoolPre n b c → x < 4096 * n → NearPre n b c x w
     free-near a l =
         let s : x < 2 ^ 62 = omega (arith, a .few) in
         record { known = a .known; few = a .few; long = a .long; low = l; granule = behind-granule c w x ex fit s; kind = behind-kind c w x ex fit s }
@@ -53,7 +52,7 @@ module _ (n : ℕ) (b : List ℕ) (c g w : ℕ) (a : NearPre n b c g w) (s : Boo
 
 -- ---- and not in stock
 module _ (n : ℕ) (b : List ℕ) (c g w : ℕ) (a : FreePre n b c g w) where
-  pub pre-call : CallPre n b c
+  pub pre-call : PoolPre n b c
   pre-call = record { known = a .known; few = a .few; long = a .long }
 
   pub word-low : granuleOf w < 4096 * n

@@ -1,5 +1,5 @@
 -- The ways out of `give`.
-use Rattle.facts.proofs.Prelude.{ℕ, zero, suc, Bool, true, false, List, [], _∷_, _≡_, refl, sym, _∙_}
+use Rattle.facts.proofs.Prelude.{ℕ, zero, suc, arith, Bool, true, false, List, [], _∷_, _≡_, refl, sym, _∙_}
 use Rattle.classes.specs.declared.Shape.{Shape}
 use Rattle.classes.specs.Shape.{shapeOf}
 use Rattle.classes.proofs.Shapes.{shape-sound}
@@ -12,14 +12,14 @@ use Rattle.release.specs.Answer.{answerAs}
 use Rattle.release.specs.way.Pre.{ClassPre}
 use Rattle.release.specs.way.One.{OneBack}
 use Rattle.release.proofs.OneSteps.{one-carried, one-left}
-use Rattle.take.specs.way.TakePlan.{CallPre}
 use Rattle.stock.specs.way.Ends.{ReleasedOne}
+use Rattle.stock.specs.way.Pre.{PoolPre}
 
 -- what the heap's functions ask of a class
-pub class-pre : (n : ℕ) (b : List ℕ) (c : ℕ) (sh : Shape) → CallPre n b c → sh ≡ shapeOf c → ClassPre n b c sh
-class-pre n b c sh a e = record { known = a .known; sound = rw e (shape-sound c); few = a .few; long = a .long }
+pub class-pre : (n : ℕ) (b : List ℕ) (c : ℕ) (sh : Shape) → PoolPre n b c → sh ≡ shapeOf c → ClassPre n b c sh
+class-pre n b c sh a e = record { known = omega (arith, a .known); sound = rw e (shape-sound c); few = a .few; long = a .long }
 
-pub class-pre-of : (n : ℕ) (b : List ℕ) (c : ℕ) → CallPre n b c → ClassPre n b c (shapeOf c)
+pub class-pre-of : (n : ℕ) (b : List ℕ) (c : ℕ) → PoolPre n b c → ClassPre n b c (shapeOf c)
 class-pre-of n b c a = class-pre n b c (shapeOf c) a refl
 
 -- the heap's answer as a number
@@ -39,7 +39,7 @@ module _ (z : Heap.Released) (b′ : List ℕ) (a : Released) (h : Answered a b�
   none f e = record { code = told-fate (z .code) (z .fate) f (sym e ∙ h .answer); book = h .left }
 
 module _ (n : ℕ) (b : List ℕ) (c h w : ℕ) (t : Bool) (b₁ : List ℕ) (o : OneBack t b₁ n b c (shapeOf c) w) where
-  pub released-one : t ≡ true → CallPre n b c → ReleasedOne 0 b₁ (releaseBlocks n b c (shapeOf c) h (w ∷ []))
+  pub released-one : t ≡ true → PoolPre n b c → ReleasedOne 0 b₁ (releaseBlocks n b c (shapeOf c) h (w ∷ []))
   released-one e a =
       none (releaseBlocks n b c (shapeOf c) h (w ∷ [])) b₁ (Fate 0) (one-carried n b c (shapeOf c) w t b₁ o (class-pre-of n b c a) e h) 0 refl
 
@@ -47,7 +47,7 @@ module _ (n : ℕ) (b : List ℕ) (c h w : ℕ) (t : Bool) (b₁ : List ℕ) (o 
     left : b₁ ≡ b
     left = one-left n b c (shapeOf c) w t b₁ o e
 
-    pub list-pre : CallPre n b c → ClassPre n b₁ c (shapeOf c)
+    pub list-pre : PoolPre n b c → ClassPre n b₁ c (shapeOf c)
     list-pre a = rw left (class-pre-of n b c a)
 
     module _ (r : Released) (b₂ : List ℕ) (a : Answered r b₂ (releaseBlocks n b₁ c (shapeOf c) h (w ∷ []))) where

@@ -2,9 +2,8 @@
 use Rattle.facts.proofs.Prelude.{ℕ, suc, _+_, _*_, _/_, _%_, _^_, _≤_, _<_, arith, mod-lt, add-one, false, List, _∷_, _≡_, refl, sym, ap, _∙_}
 use Rattle.facts.proofs.Prelude.{eqb, length, getD, take, drop, length-set, length-take, drop-cons, getD-take, lt-ltb, le-ltb, drop-past}
 use Rattle.words.specs.Word.{granuleOf}
-use Rattle.take.specs.way.TakePlan.{CallPre}
 use Rattle.poolcalls.specs.Stock.{placeAt, countIn, entryIn, placeIn, stocked, putCount, putEntry, putPlace, put, pushed, putAll}
-use Rattle.stock.specs.way.Pre.{ListPre}
+use Rattle.stock.specs.way.Pre.{ListPre, PoolPre}
 
 pub push-step : (b b₁ b₂ : List ℕ) (c k g : ℕ) → k ≡ countIn b c → b₁ ≡ put b c k g → b₂ ≡ putCount b₁ c (k + 1) → b₂ ≡ pushed b c g
 push-step b b₁ b₂ c k g p q r = r ∙ rw (q, p) (ap (putCount (put b c (countIn b c) g) c) (omega arith))
@@ -32,12 +31,12 @@ put-long b c k g = simp length-set
 
 -- ---- the first m blocks of a list: k are in their places, and the others are left to be put
 pub record Putting (n : ℕ) (b₀ : List ℕ) (c m : ℕ) (ws b : List ℕ) (k : ℕ) : Type 0 where
-  pub pre : CallPre n b c
+  pub pre : PoolPre n b c
   pub upto : k ≤ m
   pub same : length b ≡ length b₀
   pub rest : putAll b₀ c 0 (take m ws) ≡ putAll b c k (drop k (take m ws))
 
-pub putting-starts : (n : ℕ) (b : List ℕ) (c m : ℕ) (ws : List ℕ) → CallPre n b c → Putting n b c m ws b 0
+pub putting-starts : (n : ℕ) (b : List ℕ) (c m : ℕ) (ws : List ℕ) → PoolPre n b c → Putting n b c m ws b 0
 putting-starts n b c m ws a = record { pre = a; upto = omega arith; same = refl; rest = refl }
 
 module _ (n : ℕ) (b₀ : List ℕ) (c m : ℕ) (ws b : List ℕ) (k : ℕ) (i : Putting n b₀ c m ws b k) (a : ListPre n ws m) where

@@ -8,10 +8,9 @@ use Rattle.classes.proofs.Shapes.{shape-sound}
 use Rattle.model.specs.Release.{ofKind}
 use Rattle.pages.specs.Stack.{pageAt}
 use Rattle.calls.specs.Out.{inRunOf, outAt}
-use Rattle.take.specs.way.TakePlan.{CallPre}
 use Rattle.poolcalls.specs.Stock.{countIn, stocked}
 use Rattle.poolcalls.specs.Calls.{countValid, grantedIn, stockedIn}
-use Rattle.stock.specs.way.Pre.{GranulePre}
+use Rattle.stock.specs.way.Pre.{GranulePre, PoolPre}
 
 -- ---- the blocks in stock
 module _ (b : List ℕ) (c k : ℕ) (e : k ≡ countIn b c) where
@@ -57,7 +56,7 @@ module _ (c w x : ℕ) (ex : (x + blockWord (shapeOf c .kind) 0) % 2 ^ 64 ≡ w)
         (λ t. rw (far-kind t))
         (λ t. let s = leb-false (2 ^ 62) x t in rw (near-kind s, far-out l s))
 
-    module _ (a : CallPre n b c) (l : x < 4096 * n) where
+    module _ (a : PoolPre n b c) (l : x < 4096 * n) where
       near : x < 2 ^ 62
       near = omega (arith, a .few)
 

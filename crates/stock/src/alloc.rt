@@ -1,10 +1,9 @@
 // An alloc: the stock's top, or a take that fills the stock.
 ghost use Rattle.classes.specs.Shape.{shapeOf};
 ghost use Rattle.calls.specs.Take.{takeCall};
-ghost use Rattle.take.specs.way.TakePlan.{CallPre};
 ghost use Rattle.pool.specs.Stock.{blank};
 ghost use Rattle.poolcalls.specs.Calls.{bringOn, tookOn, allocOn, BlockEnds};
-ghost use Rattle.stock.specs.way.Pre.{ListPre};
+ghost use Rattle.stock.specs.way.Pre.{ListPre, PoolPre};
 ghost use Rattle.stock.specs.way.Ends.{Brings};
 use crate::cells::count;
 use crate::cells::entry;
@@ -16,7 +15,7 @@ use take::call::Take;
 
 // Of m blocks of a list the last, or none; the others are the stock.
 fn bring(meta: &mut [u32], n: u32, c: u32, list: &[u64], m: u32) -> u64
-    requires { ⌜ CallPre n (now meta) c ⌝ }
+    requires { ⌜ PoolPre n (now meta) c ⌝ }
     requires { ⌜ ListPre n (now list) m ⌝ }
     ensures { λ r. ⌜ Brings r (now (meta .exit)) (bringOn (now (meta .entry)) c m (now (list .entry))) ⌝ }
 {
@@ -30,7 +29,7 @@ fn bring(meta: &mut [u32], n: u32, c: u32, list: &[u64], m: u32) -> u64
 
 // A take into a list of the pool's own.
 fn refill(meta: &mut [u32], n: u32, c: u32, host: u32, block: &mut u64) -> u32
-    requires { ⌜ CallPre n (now meta) c ⌝ }
+    requires { ⌜ PoolPre n (now meta) c ⌝ }
     ensures { λ r. ⌜ BlockEnds (tookOn c (takeCall n (now (meta .entry)) c (shapeOf c) host blank)) r (now (meta .exit)) (now (block .entry)) (now (block .exit)) ⌝ }
 {
     let mut list = [0; 64];
@@ -44,7 +43,7 @@ fn refill(meta: &mut [u32], n: u32, c: u32, host: u32, block: &mut u64) -> u32
 }
 
 pub fn alloc(meta: &mut [u32], n: u32, c: u32, host: u32, block: &mut u64) -> u32
-    requires { ⌜ CallPre n (now meta) c ⌝ }
+    requires { ⌜ PoolPre n (now meta) c ⌝ }
     ensures { λ r. ⌜ BlockEnds (allocOn n (now (meta .entry)) c host) r (now (meta .exit)) (now (block .entry)) (now (block .exit)) ⌝ }
 {
     let k = count(meta, c);

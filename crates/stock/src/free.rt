@@ -1,10 +1,9 @@
 // A free: the tests in their order, then the stock, or the heap where the stock holds enough.
 ghost use mathlib.Core.Path.{_≡_};
 ghost use mathlib.Core.Bool.{false};
-ghost use Rattle.take.specs.way.TakePlan.{CallPre};
 ghost use Rattle.poolcalls.specs.Stock.{countIn};
 ghost use Rattle.poolcalls.specs.Calls.{freeOn, FreeEnds};
-ghost use Rattle.stock.specs.way.Pre.{NearPre, FreePre};
+ghost use Rattle.stock.specs.way.Pre.{NearPre, FreePre, PoolPre};
 ghost use Rattle.stock.specs.way.Ends.{Kept, farFault, isFull};
 use crate::cells::count;
 use crate::give::give;
@@ -62,7 +61,7 @@ fn take_back(meta: &mut [u32], n: u32, c: u32, host: u32, g: u32, w: u64) -> u32
 }
 
 pub fn free(meta: &mut [u32], n: u32, c: u32, host: u32, w: u64) -> u32
-    requires { ⌜ CallPre n (now meta) c ⌝ }
+    requires { ⌜ PoolPre n (now meta) c ⌝ }
     ensures { λ r. ⌜ FreeEnds (freeOn n (now (meta .entry)) c host w) r (now (meta .exit)) ⌝ }
 {
     let x = behind(c, w);

@@ -7,8 +7,7 @@ ghost use Rattle.pages.specs.Runs.{whole};
 ghost use Rattle.pages.specs.Stack.{pageAt};
 ghost use Rattle.calls.specs.Out.{outAt};
 ghost use Rattle.release.specs.way.Blocks.{blockAt};
-ghost use Rattle.take.specs.way.TakePlan.{CallPre};
-ghost use Rattle.stock.specs.way.Pre.{PagePre, SmallPre};
+ghost use Rattle.stock.specs.way.Pre.{PagePre, SmallPre, PoolPre};
 use classes::shape_of;
 use pages::page_within;
 use release::Found;
@@ -17,7 +16,7 @@ use release::find_out;
 
 // For any class.
 pub fn out_at(meta: &[u32], n: u32, c: u32, w: u64) -> bool
-    requires { ⌜ CallPre n (now meta) c ⌝ }
+    requires { ⌜ PoolPre n (now meta) c ⌝ }
     ensures { λ r. ⌜ r ≡ outAt n (now (meta .entry)) c (shapeOf c) w ⌝ }
 {
     let shape = shape_of(c);
@@ -80,7 +79,7 @@ fn small_out(meta: &[u32], n: u32, c: u32, w: u64) -> bool
 
 // Of a word whose granule is in the arena.
 pub fn is_out(meta: &[u32], n: u32, c: u32, w: u64) -> bool
-    requires { ⌜ CallPre n (now meta) c ⌝ }
+    requires { ⌜ PoolPre n (now meta) c ⌝ }
     requires { ⌜ granuleOf w < 4096 * n ⌝ }
     ensures { λ r. ⌜ r ≡ outAt n (now (meta .entry)) c (shapeOf c) w ⌝ }
 {

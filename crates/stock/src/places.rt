@@ -4,8 +4,7 @@ ghost use Prim.Native.Nat.{_*_, _<_};
 ghost use lib.ListN.{take};
 ghost use Rattle.words.specs.Word.{granuleOf};
 ghost use Rattle.poolcalls.specs.Stock.{countIn, stocked, put, pushed, putAll};
-ghost use Rattle.take.specs.way.TakePlan.{CallPre};
-ghost use Rattle.stock.specs.way.Pre.{GranulePre, ListPre};
+ghost use Rattle.stock.specs.way.Pre.{GranulePre, ListPre, PoolPre};
 use crate::cells::count;
 use crate::cells::entry;
 use crate::cells::place;
@@ -49,7 +48,7 @@ pub fn push(meta: &mut [u32], n: u32, c: u32, k: u32, g: u32)
 
 // The block comes into place k.
 fn put_block(meta: &mut [u32], n: u32, c: u32, k: u32, w: u64)
-    requires { ⌜ CallPre n (now meta) c ⌝ }
+    requires { ⌜ PoolPre n (now meta) c ⌝ }
     requires { ⌜ granuleOf w < 4096 * n ⌝ }
     requires { ⌜ k < 256 ⌝ }
     ensures { λ _. ⌜ now (meta .exit) ≡ put (now (meta .entry)) c k (granuleOf w) ⌝ }
@@ -59,7 +58,7 @@ fn put_block(meta: &mut [u32], n: u32, c: u32, k: u32, w: u64)
 
 // The first m blocks of the list come into the first m places.
 pub fn put_all(meta: &mut [u32], n: u32, c: u32, list: &[u64], m: u32)
-    requires { ⌜ CallPre n (now meta) c ⌝ }
+    requires { ⌜ PoolPre n (now meta) c ⌝ }
     requires { ⌜ ListPre n (now list) m ⌝ }
     ensures { λ _. ⌜ now (meta .exit) ≡ putAll (now (meta .entry)) c 0 (take m (now (list .entry))) ⌝ }
 {

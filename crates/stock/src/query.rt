@@ -6,8 +6,7 @@ ghost use Rattle.words.specs.Word.{blockWord};
 ghost use Rattle.classes.specs.Shape.{shapeOf};
 ghost use Rattle.model.specs.Release.{ofKind};
 ghost use Rattle.poolcalls.specs.Calls.{grantedIn, stockedIn};
-ghost use Rattle.take.specs.way.TakePlan.{CallPre};
-ghost use Rattle.stock.specs.way.Pre.{StockPre};
+ghost use Rattle.stock.specs.way.Pre.{StockPre, PoolPre};
 use crate::cells::count;
 use crate::out::out_at;
 use crate::places::is_stocked;
@@ -23,7 +22,7 @@ pub fn behind(c: u32, w: u64) -> u64
 
 // A block that the class's pool granted: it is not in stock, and the heap has it out. For any word.
 pub fn granted(meta: &[u32], n: u32, c: u32, w: u64) -> bool
-    requires { ⌜ CallPre n (now meta) c ⌝ }
+    requires { ⌜ PoolPre n (now meta) c ⌝ }
     ensures { λ r. ⌜ r ≡ (ofKind (shapeOf c .kind) w && grantedIn n (now (meta .entry)) c w) ⌝ }
 {
     let x = behind(c, w);

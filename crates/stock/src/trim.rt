@@ -1,6 +1,6 @@
 // A trim: the stock's top goes back to the heap.
-ghost use Rattle.take.specs.way.TakePlan.{CallPre};
 ghost use Rattle.poolcalls.specs.Calls.{trimOn, BlockEnds};
+ghost use Rattle.stock.specs.way.Pre.{PoolPre};
 use crate::cells::count;
 use crate::cells::entry;
 use crate::cells::set_count;
@@ -9,7 +9,7 @@ use crate::top::block_word;
 use crate::top::top_valid;
 
 pub fn trim(meta: &mut [u32], n: u32, c: u32, host: u32, block: &mut u64) -> u32
-    requires { ⌜ CallPre n (now meta) c ⌝ }
+    requires { ⌜ PoolPre n (now meta) c ⌝ }
     ensures { λ r. ⌜ BlockEnds (trimOn n (now (meta .entry)) c host) r (now (meta .exit)) (now (block .entry)) (now (block .exit)) ⌝ }
 {
     let k = count(meta, c);

@@ -4,6 +4,7 @@
 --     fill-planned  so the fill yields what was planned
 use Rattle.facts.proofs.Prelude.{ℕ, zero, suc, _-_, _≤_, arith, Bool, true, false, _&&_, _||_, List, [], _∷_, map, _≡_, refl, sym}
 use Rattle.facts.proofs.Prelude.{ap, _∙_, eqb, ltb, leb, length, length-append, lt-ltb, leb-true, eq-eqb, ne-eqb, by-cases, or-right}
+use Rattle.words.specs.Limits.{classRows}
 use Rattle.classes.specs.declared.Shape.{Shape}
 use Rattle.classes.specs.way.Sound.{Sound}
 use Rattle.fields.specs.Field.{Field, arena, class, page, out, frontier, partial, next, prev, free, carved, virgin, region, off, get, ok, words}
@@ -21,7 +22,7 @@ use Rattle.take.proofs.TakeDraws.{latest-small, draw-full}
 use Rattle.take.proofs.Walk.{Planned, planned, planned-stops, stops, stops-full, some-page, Step, walk-below, walk-stops, walk-step, isTurned, head-kept}
 
 -- ---- the head of the list is cut out
-module _ (n : ℕ) (b : List ℕ) (hb : leb (words n) (length b) ≡ true) (c : ℕ) (hc : ltb c 76 ≡ true) (q x : ℕ) (hq : ltb q n ≡ true) (first : get b (page prev q) ≡ 0) (after : get b (page next q) ≡ x) where
+module _ (n : ℕ) (b : List ℕ) (hb : leb (words n) (length b) ≡ true) (c : ℕ) (hc : ltb c classRows ≡ true) (q x : ℕ) (hq : ltb q n ≡ true) (first : get b (page prev q) ≡ 0) (after : get b (page next q) ≡ x) where
   pub unlink-changes : Changes (isTurned c q x) b (unlink b c q)
   unlink-changes =
       let qq = eq-eqb q q refl in
@@ -49,7 +50,7 @@ pub record Turned (n : ℕ) (b b₁ : List ℕ) (c : ℕ) (sh : Shape) (k m x : 
   pub walks : walk n b₁ c sh k m (get b₁ (class partial c)) 0 ≡ true
   pub finds : planned b₁ sh k m (get b₁ (class partial c)) ≡ planned b sh k m x
 
-module _ (n : ℕ) (b : List ℕ) (hb : leb (words n) (length b) ≡ true) (c : ℕ) (hc : ltb c 76 ≡ true) (sh : Shape) (sd : Sound sh) (bound : get b (arena frontier) ≤ n) where
+module _ (n : ℕ) (b : List ℕ) (hb : leb (words n) (length b) ≡ true) (c : ℕ) (hc : ltb c classRows ≡ true) (sh : Shape) (sd : Sound sh) (bound : get b (arena frontier) ≤ n) where
   pub page-there : (l m q : ℕ) → Valid n b c sh l m q → ltb q n ≡ true
   page-there l m q f = whole-in n b sd c q (f .run)
 
@@ -138,7 +139,7 @@ unfolding fillFrom
 fill-stops b c sh zero m e = refl
 fill-stops b c sh (suc k) m e = rw e
 
-module _ (n c : ℕ) (hc : ltb c 76 ≡ true) (sh : Shape) (sd : Sound sh) where
+module _ (n c : ℕ) (hc : ltb c classRows ≡ true) (sh : Shape) (sd : Sound sh) where
   pub fill-planned : (k m : ℕ) (b : List ℕ) → leb (words n) (length b) ≡ true → get b (arena frontier) ≤ n → walk n b c sh k m (get b (class partial c)) 0 ≡ true
       → foreseen (fillFrom b c sh k m) ≡ planned b sh k m (get b (class partial c))
   unfolding fillFrom planned

@@ -1,6 +1,7 @@
 -- The ways out of the functions that fill a take's list, and what the loop keeps.
 use Rattle.facts.proofs.Prelude.{ℕ, zero, suc, _+_, _-_, _≤_, _<_, arith, Bool, true, false, not, List, _++_, map, append-assoc, _≡_, refl, sym, ap, _∙_}
 use Rattle.facts.proofs.Prelude.{eqb, length, take, drop, length-append, length-take-le, drop-at, lt-ltb, le-leb, leb-true, not-true, not-false, by-cases}
+use Rattle.words.specs.Limits.{classRows}
 use Rattle.classes.specs.declared.Shape.{Shape}
 use Rattle.fields.specs.Field.{arena, class, page, frontier, partial, next, prev, free, carved, virgin, words, get}
 use Rattle.model.specs.Page.{wordOf}
@@ -118,7 +119,7 @@ module _ (b : List ℕ) (c : ℕ) (sh : Shape) (l : List ℕ) (at m : ℕ) where
       record {
         goes = s;
         step = st;
-        turn = turned n b (le-leb (words n) (length b) (a .long)) c (lt-ltb c 76 (a .known)) sh (a .shape) (a .bound) k m s w;
+        turn = turned n b (le-leb (words n) (length b) (a .long)) c (lt-ltb c classRows (a .known)) sh (a .shape) (a .bound) k m s w;
         count = e ∙ fill-length k s;
         some = latest-some b sh (code - 1) m (some-wanted m code s) (st .valid .more);
       }

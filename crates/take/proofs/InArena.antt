@@ -2,6 +2,7 @@
 use Rattle.facts.proofs.Prelude.{ℕ, zero, suc, _+_, _-_, _*_, _≤_, _<_, arith, mul-le-mul-right, Bool, true, false, cond, not, List, [], _∷_}
 use Rattle.facts.proofs.Prelude.{_++_, map, Option, none, some, _≡_, refl, _∙_, eqb, ltb, leb, length, getD, ltb-true, ltb-false, leb-true}
 use Rattle.facts.proofs.Prelude.{le-leb, lt-ltb, eqb-true, eqb-false, not-true, not-false, All, every, by-cases, and-left, and-right}
+use Rattle.words.specs.Limits.{classRows}
 use Rattle.words.specs.Word.{granuleOf}
 use Rattle.classes.specs.declared.Shape.{Shape}
 use Rattle.classes.specs.way.Sound.{Sound}
@@ -53,7 +54,7 @@ module _ (n : ℕ) (few : n ≤ maxPages) (c : ℕ) (sh : Shape) (sd : Sound sh)
       let ends : sh .header + (i * sh .block + sh .block) ≤ 4096 * sh .pages = omega (arith, mul-le-mul-right (sh .block) l, sd .fits) in
       (omega (arith, ends, sd .wide), words-low q e is (and-right (ltb i (sh .capacity)) _ h))
 
-  fill-low : (hc : ltb c 76 ≡ true) (k m : ℕ) (b : List ℕ) → leb (words n) (length b) ≡ true → get b (arena frontier) ≤ n → walk n b c sh k m (get b (class partial c)) 0 ≡ true
+  fill-low : (hc : ltb c classRows ≡ true) (k m : ℕ) (b : List ℕ) → leb (words n) (length b) ≡ true → get b (arena frontier) ≤ n → walk n b c sh k m (get b (class partial c)) 0 ≡ true
       → All (Low n) (fillFrom b c sh k m .blocks)
   unfolding fillFrom
   fill-low hc zero m b hb bound w = tt
@@ -72,7 +73,7 @@ module _ (n : ℕ) (few : n ≤ maxPages) (c : ℕ) (sh : Shape) (sd : Sound sh)
   module _ (l : List ℕ) where
     filled-low : (b : List ℕ) → TakePre n b c sh → walksFrom n b c sh ≡ true → InArena n (filled b c sh l)
     filled-low b a w =
-        record { low = λ i u. all-get n (fills b c sh .blocks) _ i (fill-low (lt-ltb c 76 (a .known)) (sh .batch) (sh .batch) b (le-leb (words n) (length b) (a .long)) (a .bound) w) u }
+        record { low = λ i u. all-get n (fills b c sh .blocks) _ i (fill-low (lt-ltb c classRows (a .known)) (sh .batch) (sh .batch) b (le-leb (words n) (length b) (a .long)) (a .bound) w) u }
 
     module _ (b : List ℕ) (a : TakePre n b c sh) where
       partial-low : InArena n (fromPartial n b c sh l)
@@ -95,7 +96,7 @@ module _ (n : ℕ) (few : n ≤ maxPages) (c : ℕ) (sh : Shape) (sd : Sound sh)
             let r : TakeRunPre d c sh q = record {
               pages = n;
               pre = record { known = a .known; shape = sd; few = few; long = rw (g .long) (a .long); bound = g .bound };
-              alone = g .rows c (lt-ltb c 76 (a .known)) ∙ alone;
+              alone = g .rows c (lt-ltb c classRows (a .known)) ∙ alone;
               ends = g .ends;
               under = g .below;
               owners = g .owners;
@@ -108,7 +109,7 @@ module _ (n : ℕ) (few : n ≤ maxPages) (c : ℕ) (sh : Shape) (sd : Sound sh)
             let g = commitFor n b h (sh .pages) (suc c) in
             either n (eqb (g .code) 0) (onRun (g .book) c sh l (g .run)) (tookNone b l (g .code)) (λ e. run-low h (g .run) refl) (λ e. none-taken)
 
-    blocks-low : (b : List ℕ) (h : ℕ) → c < 76 → words n ≤ length b → InArena n (takeBlocks n b c sh h l)
+    blocks-low : (b : List ℕ) (h : ℕ) → c < classRows → words n ≤ length b → InArena n (takeBlocks n b c sh h l)
     unfolding takeBlocks
     blocks-low b h known long =
         either n (ltb n (get b (arena frontier))) (tookNone b l 13) _ (λ e. none-taken) (λ e.
@@ -118,6 +119,6 @@ module _ (n : ℕ) (few : n ≤ maxPages) (c : ℕ) (sh : Shape) (sd : Sound sh)
         either n (not (eqb (get b (class empty c)) 0)) (fromPark n b c sh Empty l) _ (λ v. park-low b a alone Empty (eqb-false (get b (class empty c)) 0 (not-true _ v))) (λ v.
         either n (not (eqb (get b (class cold c)) 0)) (fromPark n b c sh Cold l) (takeNew n b c sh h l) (λ x. park-low b a alone Cold (eqb-false (get b (class cold c)) 0 (not-true _ x))) (λ x. new-low b a alone h))))
 
-  pub take-in-arena : (b : List ℕ) (h : ℕ) (l : List ℕ) → c < 76 → words n ≤ length b → InArena n (takeCall n b c sh h l)
+  pub take-in-arena : (b : List ℕ) (h : ℕ) (l : List ℕ) → c < classRows → words n ≤ length b → InArena n (takeCall n b c sh h l)
   unfolding takeCall
   take-in-arena b h l known long = either n (ltb (length l) (sh .batch)) (tookNone b l 5) (takeBlocks n b c sh h l) (λ e. none-taken) (λ e. blocks-low l b h known long)

@@ -1,6 +1,7 @@
 -- The ways out of the functions that plan a take, and what their loops keep.
 use Rattle.facts.proofs.Prelude.{ℕ, zero, suc, _+_, _-_, _≤_, _<_, min, arith, Bool, true, false, cond, not, _&&_, and-false, List, _≡_, refl, sym, ap, _∙_, eqb}
 use Rattle.facts.proofs.Prelude.{ltb, leb, length, lt-ltb, le-leb, lt-leb, leb-true, eq-eqb, ne-eqb, not-true, not-false, every, by-cases, and-left, and-right}
+use Rattle.words.specs.Limits.{classRows}
 use Rattle.classes.specs.declared.Shape.{Shape}
 use Rattle.fields.specs.Field.{arena, class, page, frontier, partial, next, prev, free, carved, listed, virgin, words, Has, get}
 use Rattle.pages.specs.Runs.{whole}
@@ -196,7 +197,7 @@ module _ (n : ℕ) (b : List ℕ) (c : ℕ) (sh : Shape) where
       let u : v ≡ planned b sh (sh .batch) (sh .batch) head .virgin = sym (and-true v) ∙ sym (ap (λ t. v && t .virgin) g) ∙ i .virgins in
       by-cases (walksFrom n b c sh)
       (λ t.
-      let f = fill-planned n c (lt-ltb c 76 (a .known)) sh (a .shape) (sh .batch) (sh .batch) b (le-leb (words n) (length b) (a .long)) (a .bound) t in
+      let f = fill-planned n c (lt-ltb c classRows (a .known)) sh (a .shape) (sh .batch) (sh .batch) b (le-leb (words n) (length b) (a .long)) (a .bound) t in
       rw (← w, t, p, u) (ap (λ z. Fill (z .count) (z .virgin)) (sym f)))
       (λ t. rw (← w, t))
     where

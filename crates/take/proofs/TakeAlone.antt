@@ -4,6 +4,7 @@
 --     alone-planned    what the take gives
 use Rattle.facts.proofs.Prelude.{ℕ, zero, suc, _+_, _-_, _≤_, arith, add-one, Bool, true, false, _&&_, _||_, List}
 use Rattle.facts.proofs.Prelude.{_≡_, refl, sym, ap, _∙_, eqb, ltb, leb, length, le-leb, leb-true, eq-eqb, ne-eqb}
+use Rattle.words.specs.Limits.{classRows}
 use Rattle.classes.specs.declared.Shape.{Shape}
 use Rattle.fields.specs.Field.{Field, arena, mark, class, hole, page, out, slot, frontier, partial, next, prev, listed, virgin, classOff, pageOff, get, put, words}
 use Rattle.fields.proofs.Laws.{get-put-same, get-put-other, length-put}
@@ -25,7 +26,7 @@ isLinked c q (page k p) = (ltb 1 (pageOff k) && ltb (pageOff k) 4 || eqb (pageOf
 isLinked c q (out p i) = false
 isLinked c q (slot p i) = false
 
-module _ (n : ℕ) (b : List ℕ) (hb : leb (words n) (length b) ≡ true) (c : ℕ) (hc : ltb c 76 ≡ true) (q : ℕ) (hq : ltb q n ≡ true) (none : get b (class partial c) ≡ 0) where
+module _ (n : ℕ) (b : List ℕ) (hb : leb (words n) (length b) ≡ true) (c : ℕ) (hc : ltb c classRows ≡ true) (q : ℕ) (hq : ltb q n ≡ true) (none : get b (class partial c) ≡ 0) where
   link-is : link b c q ≡ put (put (put (put b (page next q) 0) (page prev q) 0) (class partial c) (q + 1)) (page listed q) 1
   unfolding link linked
   link-is = rw none

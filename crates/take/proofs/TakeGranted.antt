@@ -5,6 +5,7 @@
 use Rattle.facts.proofs.Prelude.{ℕ, zero, suc, _+_, _-_, _≤_, _<_, arith, add-zero, Bool, true, false, cond, List, Option, none, some}
 use Rattle.facts.proofs.Prelude.{_≡_, refl, ap, _∙_, subst, eqb, ltb, leb, length, lt-ltb, leb-true, eqb-false, ne-eqb, by-cases}
 use Rattle.words.specs.Host.{commitGranted}
+use Rattle.words.specs.Limits.{classRows}
 use Rattle.fields.specs.Field.{arena, class, hole, page, frontier, held, partial, owner, start, pages, get, put, words}
 use Rattle.fields.proofs.Laws.{get-put-same, get-put-other, length-put}
 use Rattle.fields.proofs.Changes.{Changes, changes-none, changes-put}
@@ -26,7 +27,7 @@ pub record Granted (n : ℕ) (b b′ : List ℕ) (m q w : ℕ) : Type 0 where
   pub below : q + m ≤ get b′ (arena frontier)
   pub bound : get b′ (arena frontier) ≤ n
   pub owners : (i : ℕ) → i < m → get b′ (page owner (q + i)) ≡ w
-  pub rows : (c : ℕ) → ltb c 76 ≡ true → get b′ (class partial c) ≡ get b (class partial c)
+  pub rows : (c : ℕ) → ltb c classRows ≡ true → get b′ (class partial c) ≡ get b (class partial c)
   pub long : length b′ ≡ length b
 
 -- ---- owners

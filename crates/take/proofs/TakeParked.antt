@@ -1,6 +1,7 @@
 -- A take from a store: its newest page becomes the partial list.
 use Rattle.facts.proofs.Prelude.{ℕ, suc, _+_, _-_, _≤_, _<_, arith, Bool, true, false, not, and-false, List, _≡_, refl, sym, ap, _∙_, eqb, ltb}
 use Rattle.facts.proofs.Prelude.{leb, length, lt-ltb, le-leb, leb-true, ne-eqb, eqb-true, eqb-false, not-true, not-false, and-left, and-right}
+use Rattle.words.specs.Limits.{classRows}
 use Rattle.classes.specs.declared.Shape.{Shape}
 use Rattle.fields.specs.Field.{Field, arena, class, page, frontier, partial, next, free, carved, listed, virgin, region, get, words, Has}
 use Rattle.fields.proofs.Laws.{get-put-other}
@@ -51,7 +52,7 @@ module _ (n : ℕ) (b : List ℕ) (c : ℕ) (sh : Shape) (k : Park) where
 abbrev isRow : Field → Bool
 isRow g = eqb (region g) 2
 
-module _ (b : List ℕ) (c : ℕ) (hc : ltb c 76 ≡ true) (q : ℕ) where
+module _ (b : List ℕ) (c : ℕ) (hc : ltb c classRows ≡ true) (q : ℕ) where
   pop-store-changes : (k : Park) → Changes isRow b (popStore b c k q)
   pop-store-changes k = changes-pop-store isRow b c q hc k refl refl
 
@@ -73,8 +74,8 @@ module _ (n : ℕ) (b : List ℕ) (c : ℕ) (sh : Shape) (k : Park) (a : ParkedP
   abbrev left : List ℕ
   left = popStore b c k newest
 
-  hc : ltb c 76 ≡ true
-  hc = lt-ltb c 76 (a .pre .known)
+  hc : ltb c classRows ≡ true
+  hc = lt-ltb c classRows (a .pre .known)
 
   some-pages : get b (class (stored k) c) ≡ 0 → ⊥
   unfolding parkValid

@@ -2,6 +2,7 @@
 use Rattle.facts.proofs.Prelude.{ℕ, zero, suc, _+_, _-_, _≤_, _<_, min, arith, add-one, Bool, true, false, cond, _&&_, false≢true, List, Option, none, some, _≡_, refl, sym}
 use Rattle.facts.proofs.Prelude.{ap, _∙_, eqb, ltb, leb, length, lt-ltb, le-ltb, le-leb, ltb-true, ltb-false, eq-eqb, ne-eqb, eqb-true, isSome, by-cases, and-left, and-right}
 use mir.Val.{boolByte}
+use Rattle.words.specs.Limits.{classRows}
 use Rattle.classes.specs.declared.Shape.{Shape}
 use Rattle.classes.specs.Shape.{shapeOf}
 use Rattle.classes.proofs.Shapes.{shape-sound}
@@ -59,8 +60,8 @@ module _ (b : List ℕ) (c : ℕ) (sh : Shape) (q : ℕ) where
     hb : leb (words n) (length b) ≡ true
     hb = le-leb (words n) (length b) (a .pre .long)
 
-    hc : ltb c 76 ≡ true
-    hc = lt-ltb c 76 (a .pre .known)
+    hc : ltb c classRows ≡ true
+    hc = lt-ltb c classRows (a .pre .known)
 
     in-arena : q < n
     in-arena = omega (arith, a .ends, a .pre .shape .paged)
@@ -173,7 +174,7 @@ module _ (n : ℕ) (b : List ℕ) (c : ℕ) (sh : Shape) (h : ℕ) where
       record {
         pages = n;
         pre = record { known = t .pre .known; shape = t .pre .shape; few = t .pre .few; long = rw (g .long) (t .pre .long); bound = g .bound };
-        alone = g .rows c (lt-ltb c 76 (t .pre .known)) ∙ t .alone;
+        alone = g .rows c (lt-ltb c classRows (t .pre .known)) ∙ t .alone;
         ends = g .ends;
         under = g .below;
         owners = g .owners;

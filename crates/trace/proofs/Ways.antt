@@ -1,6 +1,6 @@
 -- The ways out of the calls that a trace's words stand for.
 use Rattle.facts.proofs.Prelude.{ℕ, _-_, _≤_, _<_, arith, Bool, true, false, List, [], _∷_, _≡_, refl, lt-ltb, le-ltb, le-leb, lt-leb}
-use Rattle.classes.specs.Shape.{shapeOf}
+use Rattle.classes.specs.Shape.{shapeOf, classCount}
 use Rattle.classes.proofs.Shapes.{shape-sound}
 use Rattle.fields.specs.Field.{page, owner, get}
 use Rattle.pages.specs.Stack.{pageAt}
@@ -29,18 +29,18 @@ module _ (n : ℕ) (b : List ℕ) (w k : ℕ) (e : k ≡ ownerAt n b w) where
   unfolding backNow
   back-none z = rw (← e, z) (record { answer = refl; left = refl })
 
-  pub back-high : (k ≡ 0 → ⊥) → 76 < k → Answered (Refused 10) b (backNow n b w)
+  pub back-high : (k ≡ 0 → ⊥) → classCount < k → Answered (Refused 10) b (backNow n b w)
   unfolding backNow
-  back-high z h = rw (← e, le-leb 1 k (omega (arith, z)), lt-leb k 76 h) (record { answer = refl; left = refl })
+  back-high z h = rw (← e, le-leb 1 k (omega (arith, z)), lt-leb k classCount h) (record { answer = refl; left = refl })
 
-  pub back-pre : (k ≡ 0 → ⊥) → k ≤ 76 → BookPre n b → ClassPre n b (k - 1) (shapeOf (k - 1))
+  pub back-pre : (k ≡ 0 → ⊥) → k ≤ classCount → BookPre n b → ClassPre n b (k - 1) (shapeOf (k - 1))
   back-pre z h a = record { known = omega (arith, z); sound = shape-sound (k - 1); few = a .few; long = a .long }
 
-  done : (k ≡ 0 → ⊥) → k ≤ 76 → (r : Released) (b′ : List ℕ) → Answered r b′ (releaseBlocks n b (k - 1) (shapeOf (k - 1)) 15 (w ∷ [])) → Answered r b′ (backNow n b w)
+  done : (k ≡ 0 → ⊥) → k ≤ classCount → (r : Released) (b′ : List ℕ) → Answered r b′ (releaseBlocks n b (k - 1) (shapeOf (k - 1)) 15 (w ∷ [])) → Answered r b′ (backNow n b w)
   unfolding backNow
-  done z h r b′ a = rw (← e, le-leb 1 k (omega (arith, z)), le-leb k 76 h) a
+  done z h r b′ a = rw (← e, le-leb 1 k (omega (arith, z)), le-leb k classCount h) a
 
-  module _ (z : k ≡ 0 → ⊥) (h : k ≤ 76) (t : Bool) (b′ : List ℕ) (o : OneBack t b′ n b (k - 1) (shapeOf (k - 1)) w) where
+  module _ (z : k ≡ 0 → ⊥) (h : k ≤ classCount) (t : Bool) (b′ : List ℕ) (o : OneBack t b′ n b (k - 1) (shapeOf (k - 1)) w) where
     pub back-one : t ≡ true → BookPre n b → Answered (Fate 0) b′ (backNow n b w)
     back-one x a = done z h (Fate 0) b′ (one-carried n b (k - 1) (shapeOf (k - 1)) w t b′ o (back-pre z h a) x 15)
 

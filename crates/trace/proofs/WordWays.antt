@@ -1,5 +1,6 @@
 -- The ways out of one word: what it says, and the call's own way.
 use Rattle.facts.proofs.Prelude.{ℕ, _/_, _%_, _<_, _≤_, Bool, true, false, _&&_, List, _≡_, refl, eqb, ne-eqb, lt-ltb, le-ltb}
+use Rattle.classes.specs.Shape.{classCount}
 use Rattle.trace.specs.declared.steps.Tally.{Tally}
 use Rattle.trace.specs.declared.steps.Step.{Step}
 use Rattle.trace.specs.declared.steps.Step.the-variants.{Stops}
@@ -15,13 +16,13 @@ module _ (k m : ℕ) where
   report-number z = rw z
 
 module _ (w k m : ℕ) (e : k ≡ w / 1073741824) (f : m ≡ w % 1073741824) where
-  says-take : k ≡ 0 → m < 76 → sayOf w ≡ Trace.take m
+  says-take : k ≡ 0 → m < classCount → sayOf w ≡ Trace.take m
   unfolding sayOf
-  says-take z h = rw (← e, ← f, z, lt-ltb m 76 h)
+  says-take z h = rw (← e, ← f, z, lt-ltb m classCount h)
 
-  says-high : k ≡ 0 → 76 ≤ m → sayOf w ≡ wrong
+  says-high : k ≡ 0 → classCount ≤ m → sayOf w ≡ wrong
   unfolding sayOf
-  says-high z h = rw (← e, ← f, z, le-ltb m 76 h)
+  says-high z h = rw (← e, ← f, z, le-ltb m classCount h)
 
   says-back : (k ≡ 0 → ⊥) → k ≡ 1 → sayOf w ≡ Trace.back m
   unfolding sayOf
@@ -44,12 +45,12 @@ module _ (w k m : ℕ) (e : k ≡ w / 1073741824) (f : m ≡ w % 1073741824) whe
       word-wrong z = rw (says-wrong z) (record { reason = refl; same = refl })
 
   module _ (n : ℕ) (b bl fl : List ℕ) (t : Tally) (r : Step) where
-    pub word-take : (b′ bl′ : List ℕ) → k ≡ 0 → m < 76 → CarriedBlocks r n (Trace.take m) b bl t b′ bl′ → Carried r n (sayOf w) (lent b bl fl) t (lent b′ bl′ fl)
+    pub word-take : (b′ bl′ : List ℕ) → k ≡ 0 → m < classCount → CarriedBlocks r n (Trace.take m) b bl t b′ bl′ → Carried r n (sayOf w) (lent b bl fl) t (lent b′ bl′ fl)
     word-take b′ bl′ z h c = rw (says-take z h) (c fl)
 
     pub word-back : (b′ bl′ : List ℕ) → (k ≡ 0 → ⊥) → k ≡ 1 → CarriedBlocks r n (Trace.back m) b bl t b′ bl′ → Carried r n (sayOf w) (lent b bl fl) t (lent b′ bl′ fl)
     word-back b′ bl′ y z c = rw (says-back y z) (c fl)
 
   module _ (n : ℕ) (b bl fl : List ℕ) (t : Tally) where
-    pub word-high : k ≡ 0 → 76 ≤ m → Carried Stops n (sayOf w) (lent b bl fl) t (lent b bl fl)
+    pub word-high : k ≡ 0 → classCount ≤ m → Carried Stops n (sayOf w) (lent b bl fl) t (lent b bl fl)
     word-high z h = rw (says-high z h) (record { reason = refl; same = refl })

@@ -12,6 +12,7 @@ use mathlib.Core.Bool.{Bool, true, false, cond, not, _&&_}
 use lib.Dec.{eqb, ltb}
 use lib.ListN.{length, replicate}
 use Rattle.facts.specs.Lists.{total}
+use Rattle.classes.specs.Shape.{classCount}
 use Rattle.rules.specs.Rules.{rulesOf}
 use Rattle.model.specs.Calls as Calls
 use Rattle.model.specs.Calls.{Call, names}
@@ -29,7 +30,7 @@ pub data Say : Type 0 where
 
 abbrev pub say : ℕ → ℕ → Say
 say kind m =
-    cond (eqb kind 0) (cond (ltb m 76) (take m) wrong)
+    cond (eqb kind 0) (cond (ltb m classCount) (take m) wrong)
     (cond (eqb kind 1) (back m)
     (cond (eqb kind 2 && eqb m 0) report wrong))
 

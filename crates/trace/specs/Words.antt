@@ -12,7 +12,7 @@ use lib.ListN as ListN
 use lib.ListN.{length, drop, getD, set}
 use Rattle.words.specs.Word.{kindBits, kindOf}
 use Rattle.classes.specs.Sizes.{granuleBytes}
-use Rattle.classes.specs.Shape.{shapeOf}
+use Rattle.classes.specs.Shape.{shapeOf, classCount}
 use Rattle.rules.specs.Rules.{rulesOf}
 use Rattle.fields.specs.Field.{page, owner, get}
 use Rattle.fields.specs.Ranges.{lengthFault}
@@ -42,7 +42,7 @@ abbrev pub classAt : ℕ → List ℕ → ℕ → ℕ
 classAt n b w = ownerAt n b w - 1
 
 abbrev pub known : ℕ → Bool
-known k = leb 1 k && leb k 76
+known k = leb 1 k && leb k classCount
 
 unfoldable pub backNow : ℕ → List ℕ → ℕ → Released
 backNow n b w =

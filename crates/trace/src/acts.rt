@@ -7,6 +7,7 @@ ghost use Rattle.trace.specs.Words.{ownerAt, classAt, takeNow, backNow};
 ghost use Rattle.trace.specs.way.Pre.{BookPre, TakesAt, fitted};
 ghost use Prim.Native.Nat.{_≤_};
 ghost use lib.ListN.{length};
+use classes::CLASS_COUNT;
 use release::Released;
 use take::call::Take;
 use words::Host;
@@ -52,7 +53,7 @@ pub fn back_now(meta: &mut [u32], n: u32, w: u64) -> Released
     if k == 0 {
         return Released::Refused(10);
     }
-    if 76 < k {
+    if CLASS_COUNT < k {
         return Released::Refused(10);
     }
     if release::release_one(meta, n, k - 1, w) {

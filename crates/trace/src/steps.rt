@@ -4,6 +4,7 @@ ghost use mathlib.Core.Bool.{_&&_};
 ghost use lib.Dec.{eqb};
 ghost use lib.ListN.{length};
 ghost use Prim.Native.Nat.{_+_, _-_, _*_, _^_, _<_, _≤_};
+ghost use Rattle.classes.specs.Shape.{classCount};
 ghost use Rattle.trace.specs.Trace as Trace;
 ghost use Rattle.trace.specs.Trace.{max, sayOf};
 ghost use Rattle.trace.specs.Words.{sizeOf};
@@ -15,6 +16,7 @@ use crate::acts::take_now;
 use crate::lists::flip_kind;
 use crate::lists::is_block;
 use crate::lists::paste;
+use classes::CLASS_COUNT;
 use direct::Report;
 use release::Released;
 use take::call::Take;
@@ -108,7 +110,7 @@ pub fn back_word(meta: &mut [u32], n: u32, blocks: &mut [u64], t: Tally, p: usiz
 // "take from the class in the low 30 bits": its blocks come to the list behind those before them, if there is room for them.
 pub fn take_word(meta: &mut [u32], n: u32, blocks: &mut [u64], t: Tally, c: u32) -> Step
     requires { ⌜ BlocksPre n (now meta) (now blocks) t ⌝ }
-    requires { ⌜ c < 76 ⌝ }
+    requires { ⌜ c < classCount ⌝ }
     ensures { λ r. ⌜ CarriedBlocks r n (Trace.take c) (now (meta .entry)) (now (blocks .entry)) t (now (meta .exit)) (now (blocks .exit)) ⌝ }
 {
     if BYTES_MAX < t.bytes {
@@ -180,7 +182,7 @@ pub fn word(
     let kind = w / 1_073_741_824;
     let number = w % 1_073_741_824;
     if kind == 0 {
-        if number < 76 {
+        if number < CLASS_COUNT {
             return take_word(meta, n, blocks, t, number);
         }
         return Step::Stops;

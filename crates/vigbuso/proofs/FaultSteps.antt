@@ -8,6 +8,7 @@ use Rattle.facts.proofs.Prelude.{ltb, leb, eq-eqb, ne-eqb, eqb-true, le-leb, lt
 use mir.Val.{Fits}
 use mir.Syntax.{w32}
 use Rattle.words.specs.Host.{badHost}
+use Rattle.classes.specs.Shape.{classCount}
 use Rattle.fields.specs.Ranges.{metaFault}
 use Rattle.vigbuso.specs.Faults.{callFault, classFault, admits}
 
@@ -53,7 +54,7 @@ module _ (b : List ℕ) (h : ℕ) where
     pub class-below : (r : ℕ) → r ≡ classFault b h many c → r ≡ 0 → c < many
     class-below r e z = leb-false many c (class-clear (sym e ∙ z) .passed)
 
-    pub id-fits : (r low : ℕ) → low + many ≤ 76 → r ≡ classFault b h many c → r ≡ 0 → Fits w32 (low + c)
+    pub id-fits : (r low : ℕ) → low + many ≤ classCount → r ≡ classFault b h many c → r ≡ 0 → Fits w32 (low + c)
     id-fits r low l e z = record { fits = omega (arith, class-below r e z) }
 
     module _ (r : ℕ) (e : r ≡ callFault b h) where
@@ -76,7 +77,7 @@ module _ (b : List ℕ) (c : ℕ) where
     unfolding admits
     admits-not d = rw (← e, ne-eqb r 0 d)
 
-    pub admits-by : r ≡ 0 → ltb c 76 ≡ admits b c
+    pub admits-by : r ≡ 0 → ltb c classCount ≡ admits b c
     unfolding admits
     admits-by z = rw (← e, eq-eqb r 0 z)
 
@@ -85,6 +86,6 @@ module _ (b : List ℕ) (c : ℕ) where
     unfolding admits
     admits-book = eqb-true (metaFault b) 0 (and-left (eqb (metaFault b) 0) _ (sym e ∙ z))
 
-    pub admits-class : c < 76
+    pub admits-class : c < classCount
     unfolding admits
-    admits-class = ltb-true c 76 (and-right (eqb (metaFault b) 0) _ (sym e ∙ z))
+    admits-class = ltb-true c classCount (and-right (eqb (metaFault b) 0) _ (sym e ∙ z))

@@ -1,25 +1,23 @@
 -- The ways out of the exported calls of the pool.
 use Rattle.facts.proofs.Prelude.{ℕ, _-_, _≤_, _<_, arith, Bool, true, false, cond, _&&_, List, _≡_, refl, sym, _∙_, eq-eqb, ne-eqb, le-leb, lt-leb}
-use Rattle.classes.specs.Shape.{shapeOf}
+use Rattle.classes.specs.Shape.{shapeOf, classCount}
 use Rattle.fields.specs.Field.{arena, size, get}
 use Rattle.fields.specs.Ranges.{metaFault}
 use Rattle.model.specs.Release.{ofKind}
-use Rattle.take.specs.way.TakePlan.{CallPre}
-use Rattle.stock.specs.way.Pre.{StockPre}
+use Rattle.stock.specs.way.Pre.{StockPre, PoolPre}
 use Rattle.trace.specs.way.Pre.{BookPre}
 use Rattle.trace.specs.Words.{ownerAt, known}
 use Rattle.pool.specs.Pool.{PoolRequest, alloc, free, trim, hostIn}
 use Rattle.poolcalls.specs.Calls.{requestOn, allocOn, freeOn, trimOn, grantedIn, stockedIn}
 use Rattle.vigbuso.specs.Faults.{classFault, admits}
 use Rattle.vigbuso.specs.Pool.{poolOn, classOn, grantedOn, stockedOn, BlockEnds, FreeEnds}
-use Rattle.vigbuso.proofs.FaultSteps.{admits-book, admits-class}
+use Rattle.vigbuso.proofs.FaultSteps.{class-book, class-below, admits-book, admits-class}
 use Rattle.vigbuso.proofs.DirectSteps.{book-in}
-use Rattle.vigbuso.proofs.TakeSteps.{take-pre}
 
-pub pool-pre : (b : List ℕ) (h r c n : ℕ) → r ≡ classFault b h 76 c → r ≡ 0 → n ≡ get b (arena size) → CallPre n b c
-pool-pre b h r c n e z f = let a = take-pre b h r 0 76 c n (omega arith) e z f in record { known = omega (arith, a .known); few = a .few; long = a .long }
+pub pool-pre : (b : List ℕ) (h r c n : ℕ) → r ≡ classFault b h classCount c → r ≡ 0 → n ≡ get b (arena size) → PoolPre n b c
+pool-pre b h r c n e z f = let k = book-in b (class-book b h classCount c r e z) n f in record { known = class-below b h classCount c r e z; few = k .small; long = k .long }
 
-module _ (b : List ℕ) (c r h : ℕ) (e : r ≡ classFault b h 76 c) where
+module _ (b : List ℕ) (c r h : ℕ) (e : r ≡ classFault b h classCount c) where
   module _ (d : r ≡ 0 → ⊥) where
     pub alloc-unfit : (w : ℕ) → BlockEnds (poolOn b c (alloc h)) r b w w
     unfolding poolOn
@@ -49,7 +47,7 @@ module _ (b : List ℕ) (c r h : ℕ) (e : r ≡ classFault b h 76 c) where
 
 -- ---- the class that has a block's page
 module _ (b : List ℕ) (w r : ℕ) (e : r ≡ metaFault b) where
-  pub class-unfit : (r ≡ 0 → ⊥) → 76 ≡ classOn b w
+  pub class-unfit : (r ≡ 0 → ⊥) → classCount ≡ classOn b w
   unfolding classOn
   class-unfit d = rw (← e, ne-eqb r 0 d)
 
@@ -62,19 +60,19 @@ module _ (b : List ℕ) (w r : ℕ) (e : r ≡ metaFault b) where
       owner-pre = let k = book-in b book-valid n f in record { few = k .small; long = k .long }
 
       module _ (k : ℕ) (ek : k ≡ ownerAt n b w) where
-        held : classOn b w ≡ cond (known k) (k - 1) 76
+        held : classOn b w ≡ cond (known k) (k - 1) classCount
         unfolding classOn
         held = rw (← e, eq-eqb r 0 z, ← f, ← ek)
 
-        pub class-none : k ≡ 0 → 76 ≡ classOn b w
+        pub class-none : k ≡ 0 → classCount ≡ classOn b w
         class-none o = sym (held ∙ rw o)
 
         module _ (d : k ≡ 0 → ⊥) where
-          pub class-high : 76 < k → 76 ≡ classOn b w
-          class-high h = sym (held ∙ rw (le-leb 1 k (omega (arith, d)), lt-leb k 76 h))
+          pub class-high : classCount < k → classCount ≡ classOn b w
+          class-high h = sym (held ∙ rw (le-leb 1 k (omega (arith, d)), lt-leb k classCount h))
 
-          pub class-held : k ≤ 76 → k - 1 ≡ classOn b w
-          class-held h = sym (held ∙ rw (le-leb 1 k (omega (arith, d)), le-leb k 76 h))
+          pub class-held : k ≤ classCount → k - 1 ≡ classOn b w
+          class-held h = sym (held ∙ rw (le-leb 1 k (omega (arith, d)), le-leb k classCount h))
 
 -- ---- a granted block, and the blocks in stock
 module _ (b : List ℕ) (c : ℕ) (t : Bool) (e : t ≡ admits b c) where
@@ -87,7 +85,7 @@ module _ (b : List ℕ) (c : ℕ) (t : Bool) (e : t ≡ admits b c) where
   stocked-no z = rw (← e, z)
 
   module _ (z : t ≡ true) where
-    pub admitted-pre : (n : ℕ) → n ≡ get b (arena size) → CallPre n b c
+    pub admitted-pre : (n : ℕ) → n ≡ get b (arena size) → PoolPre n b c
     admitted-pre n f =
         let k = book-in b (admits-book b c t e z) n f in
         record { known = admits-class b c t e z; few = k .small; long = k .long }

@@ -1,7 +1,7 @@
 -- The ways out of the exported releases by list.
 use Rattle.facts.proofs.Prelude.{ℕ, zero, suc, _+_, _≤_, _<_, arith, List, _≡_, refl, sym, _∙_, eq-eqb, ne-eqb}
 use Rattle.classes.specs.declared.Shape.{Shape}
-use Rattle.classes.specs.Shape.{shapeOf}
+use Rattle.classes.specs.Shape.{shapeOf, classCount}
 use Rattle.classes.proofs.Shapes.{shape-sound}
 use Rattle.fields.specs.Field.{arena, size, get}
 use Rattle.fields.specs.Ranges.{metaFault}
@@ -21,12 +21,12 @@ refusal : (k : ℕ) → (k ≡ 0 → ⊥) → (f : ℕ) → Refused k ≡ answer
 refusal zero d f = absurd (d refl)
 refusal (suc k) d f = refl
 
-pub class-pre : (b : List ℕ) (c n : ℕ) (sh : Shape) → metaFault b ≡ 0 → c < 76 → n ≡ get b (arena size) → sh ≡ shapeOf c → ClassPre n b c sh
+pub class-pre : (b : List ℕ) (c n : ℕ) (sh : Shape) → metaFault b ≡ 0 → c < classCount → n ≡ get b (arena size) → sh ≡ shapeOf c → ClassPre n b c sh
 class-pre b c n sh z j f w =
     let k = book-in b z n f in
-    record { known = j; sound = rw w (shape-sound c); few = k .small; long = k .long }
+    record { known = omega arith; sound = rw w (shape-sound c); few = k .small; long = k .long }
 
-pub release-pre : (b : List ℕ) (h r low many c n : ℕ) → low + many ≤ 76 → r ≡ classFault b h many c → r ≡ 0 → n ≡ get b (arena size) → ClassPre n b (low + c) (shapeOf (low + c))
+pub release-pre : (b : List ℕ) (h r low many c n : ℕ) → low + many ≤ classCount → r ≡ classFault b h many c → r ≡ 0 → n ≡ get b (arena size) → ClassPre n b (low + c) (shapeOf (low + c))
 release-pre b h r low many c n u e z f = class-pre b (low + c) n (shapeOf (low + c)) (class-book b h many c r e z) (omega (arith, class-below b h many c r e z)) f refl
 
 module _ (b : List ℕ) (h many c r : ℕ) (e : r ≡ classFault b h many c) (low : ℕ) (l : List ℕ) where

@@ -1,7 +1,7 @@
 -- The ways out of the exported takes.
 use Rattle.facts.proofs.Prelude.{ℕ, zero, suc, _+_, _≤_, arith, Bool, false, cond, List, _≡_, refl, _∙_, eqb, eq-eqb, ne-eqb}
 use Rattle.fields.specs.Field.{arena, size, get}
-use Rattle.classes.specs.Shape.{shapeOf}
+use Rattle.classes.specs.Shape.{shapeOf, classCount}
 use Rattle.words.specs.Host.{digit}
 use Rattle.calls.specs.Take.{takeCall}
 use Rattle.take.specs.way.TakeAnswer.{TakesInto}
@@ -29,7 +29,7 @@ module _ (n : ℕ) (g : Bool) where
   virgin-is zero old = refl
   virgin-is (suc j) old = rw (ne-eqb (suc j) 0 (not-none j))
 
-pub take-pre : (b : List ℕ) (h r low many c n : ℕ) → low + many ≤ 76 → r ≡ classFault b h many c → r ≡ 0 → n ≡ get b (arena size) → CallPre n b (low + c)
+pub take-pre : (b : List ℕ) (h r low many c n : ℕ) → low + many ≤ classCount → r ≡ classFault b h many c → r ≡ 0 → n ≡ get b (arena size) → CallPre n b (low + c)
 take-pre b h r low many c n u e z f =
     let k = book-in b (class-book b h many c r e z) n f in
     record { known = omega (arith, class-below b h many c r e z); few = k .small; long = k .long }

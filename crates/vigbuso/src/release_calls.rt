@@ -2,6 +2,7 @@
 use crate::faults::class_fault;
 use release::Released;
 ghost use Prim.Native.Nat.{_+_, _≤_};
+ghost use Rattle.classes.specs.Shape.{classCount};
 ghost use Rattle.release.specs.way.Act.{Answered};
 ghost use Rattle.vigbuso.specs.Blocks.{releaseOn, ReleaseEnds};
 
@@ -14,7 +15,7 @@ fn release_on(
     host: u32,
     list: &[u64],
 ) -> Released
-    requires { ⌜ low + many ≤ 76 ⌝ }
+    requires { ⌜ low + many ≤ classCount ⌝ }
     ensures { λ r. ⌜ Answered r (now (meta .exit)) (releaseOn low many (now (meta .entry)) class host (now (list .entry))) ⌝ }
 {
     let fault = class_fault(meta, host, many, class);

@@ -1,6 +1,7 @@
 // The takes. Any number, any list and any book is taken: numbers 1 to 4 stand before each call.
 use crate::faults::class_fault;
 ghost use Prim.Native.Nat.{_+_, _≤_};
+ghost use Rattle.classes.specs.Shape.{classCount};
 ghost use Rattle.vigbuso.specs.Blocks.{takeOn, TakeEnds};
 
 // A take of a class among those of ids `low` to `low + many - 1`.
@@ -14,7 +15,7 @@ fn take_on(
     count: &mut u32,
     virgin: &mut u32,
 ) -> u32
-    requires { ⌜ low + many ≤ 76 ⌝ }
+    requires { ⌜ low + many ≤ classCount ⌝ }
     ensures { λ r. ⌜ TakeEnds (takeOn low many (now (meta .entry)) class host (now (list .entry))) r (now (meta .exit)) (now (list .exit)) (now (count .entry)) (now (count .exit)) (now (virgin .entry)) (now (virgin .exit)) ⌝ }
 {
     let fault = class_fault(meta, host, many, class);

@@ -12,6 +12,10 @@ holeSlots = 4096
 abbrev pub holePagesMax : ℕ
 holePagesMax = 65536
 
+-- the class rows of a book
+abbrev pub classRows : ℕ
+classRows = 76
+
 -- the largest limit of a store, empty or cold, over all classes
 abbrev pub maxParked : ℕ
 maxParked = 256

@@ -6,6 +6,7 @@ use mathlib.Core.Path.{_≡_}
 use lib.Dec.{ltb}
 use lib.ListN.{length, drop}
 use Rattle.facts.specs.Lists.{every}
+use Rattle.words.specs.Limits.{classRows}
 use Rattle.words.specs.Word.{pageOf}
 use Rattle.classes.specs.declared.Shape.{Shape}
 use Rattle.classes.specs.way.Sound.{Sound}
@@ -20,7 +21,7 @@ abbrev pub placeValid : List ℕ → ℕ → Bool
 placeValid b q = ltb q (get b (arena frontier)) && linksValid b q
 
 pub record PlacePre (b : List ℕ) (c : ℕ) (sh : Shape) (gs fs : List ℕ) : Type 0 where
-  pub known : c < 76
+  pub known : c < classRows
   pub sound : Sound sh
   pub few : get b (arena frontier) ≤ maxPages
   pub long : words (get b (arena frontier)) ≤ length b

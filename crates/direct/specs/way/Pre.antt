@@ -4,14 +4,14 @@ use mathlib.Core.Bool.{true}
 use mathlib.Core.List.{List}
 use mathlib.Core.Path.{_≡_}
 use lib.ListN.{length}
-use Rattle.words.specs.Limits.{maxParked}
-use Rattle.classes.specs.Shape.{shapeOf, classCount}
+use Rattle.words.specs.Limits.{maxParked, classRows}
+use Rattle.classes.specs.Shape.{shapeOf}
 use Rattle.arena.specs.Valid.{allCountsValid}
 use Rattle.arena.specs.Calls.{parkedRuns}
 
 -- a class's row of a book
 pub record RowIn (b : List ℕ) (c : ℕ) : Type 0 where
-  pub known : c < classCount
+  pub known : c < classRows
   pub long : 40000 ≤ length b
 
 -- every count of parked runs is in its range

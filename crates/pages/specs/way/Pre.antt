@@ -7,6 +7,7 @@ use mathlib.Core.Path.{_≡_}
 use lib.Dec.{ltb}
 use lib.ListN.{length}
 use Rattle.facts.specs.Lists.{every}
+use Rattle.words.specs.Limits.{classRows}
 use Rattle.classes.specs.declared.Shape.{Shape}
 use Rattle.classes.specs.way.Sound.{Sound}
 use Rattle.fields.specs.Field as Field
@@ -18,36 +19,36 @@ use Rattle.pages.specs.Stack.{topEntries, latest, indexOf, pageSlots}
 
 -- ---- the class's lists
 pub record RowPre (b : List ℕ) (c : ℕ) : Type 0 where
-  pub known : c < 76
+  pub known : c < classRows
   pub long : words 0 ≤ length b
 
 pub record LinkPre (b : List ℕ) (c q : ℕ) : Type 0 where
-  pub known : c < 76
+  pub known : c < classRows
   pub below : q < maxPages
   pub there : words (q + 1) ≤ length b
   pub head : words (get b (class partial c)) ≤ length b
 
 -- page q with the codes x behind it and y before it
 pub record CutPre (b : List ℕ) (c q x y : ℕ) : Type 0 where
-  pub known : c < 76
+  pub known : c < classRows
   pub there : words (q + 1) ≤ length b
   pub behind : words x ≤ length b
   pub before : words y ≤ length b
 
 pub record UnlinkPre (b : List ℕ) (c q : ℕ) : Type 0 where
-  pub known : c < 76
+  pub known : c < classRows
   pub there : words (q + 1) ≤ length b
   pub behind : words (get b (page next q)) ≤ length b
   pub before : words (get b (page prev q)) ≤ length b
 
 pub record ParkPre (b : List ℕ) (c : ℕ) (k : Park) (q : ℕ) : Type 0 where
-  pub known : c < 76
+  pub known : c < classRows
   pub below : q < maxPages
   pub there : words (q + 1) ≤ length b
   pub few : get b (class (stored k) c) ≤ maxParked
 
 pub record UnparkRunPre (b : List ℕ) (c : ℕ) (k : Park) (q : ℕ) : Type 0 where
-  pub known : c < 76
+  pub known : c < classRows
   pub below : q < maxPages
   pub there : words (q + 1) ≤ length b
   pub head : words (get b (class partial c)) ≤ length b
@@ -60,12 +61,12 @@ pub record PagePre (b : List ℕ) (q : ℕ) : Type 0 where
 -- ---- runs
 -- the m pages from q on, which may be anything else
 pub record OfRunPre (b : List ℕ) (c q m : ℕ) : Type 0 where
-  pub known : c < 76
+  pub known : c < classRows
   pub below : q + m < 2 ^ 32
   pub there : words (q + m) ≤ length b
 
 pub record WholePre (b : List ℕ) (n c : ℕ) : Type 0 where
-  pub known : c < 76
+  pub known : c < classRows
   pub long : words n ≤ length b
 
 pub record RunPre (b : List ℕ) (q m : ℕ) : Type 0 where

@@ -7,6 +7,7 @@ use mathlib.Core.Bool.{true}
 use mathlib.Core.List.{List}
 use mathlib.Core.Path.{_≡_}
 use lib.Dec.{ltb}
+use Rattle.classes.specs.Shape.{classCount}
 use Rattle.refinement.specs.way.Represents.{Represents}
 use Rattle.pool.specs.Stock.{countMax}
 use Rattle.pool.specs.Pool.{Pool, Done}
@@ -21,7 +22,7 @@ pub record StockRep (n : ℕ) (b : List ℕ) (c : ℕ) (st : List ℕ) : Type 0 
 
 pub record PoolRep (n : ℕ) (b : List ℕ) (P : Pool) : Type 0 where
   pub heap : Represents n b (P .heap)
-  pub stocks : (c : ℕ) → ltb c 76 ≡ true → StockRep n b c (P .stock c)
+  pub stocks : (c : ℕ) → ltb c classCount ≡ true → StockRep n b c (P .stock c)
 
 pub record PoolAgrees (n : ℕ) (s : PoolReply) (d : Done) : Type 0 where
   pub answer : s .answer ≡ d .answer

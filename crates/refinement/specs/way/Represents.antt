@@ -11,6 +11,7 @@ use mathlib.Core.Path.{_≡_}
 use lib.Dec.{ltb}
 use lib.ListN.{length}
 use Rattle.facts.specs.Lists.{All, count}
+use Rattle.words.specs.Limits.{classRows}
 use Rattle.classes.specs.declared.Shape.{Shape}
 use Rattle.classes.specs.Shape.{shapeOf}
 use Rattle.fields.specs.Field.{page, mark, slot, free, carved, listed, virgin, get}
@@ -89,5 +90,5 @@ pub record RuleRep (b : List ℕ) (c : ℕ) (lim : Limits) : Type 0 where
 
 pub record Represents (n : ℕ) (b : List ℕ) (H : Heap) : Type 0 where
   pub arena : ArenaRep n b H
-  pub classes : (c : ℕ) → ltb c 76 ≡ true → StateRep n b c (shapeOf c) (H .classes c)
-  pub rules : (c : ℕ) → ltb c 76 ≡ true → RuleRep b c (H .rules c)
+  pub classes : (c : ℕ) → ltb c classRows ≡ true → StateRep n b c (shapeOf c) (H .classes c)
+  pub rules : (c : ℕ) → ltb c classRows ≡ true → RuleRep b c (H .rules c)

@@ -14,6 +14,7 @@ use lib.Dec.{eqb, ltb}
 use lib.ListN.{length, getD}
 use Rattle.facts.specs.Lists.{isNil, every}
 use Rattle.words.specs.Host.{discardZeroed}
+use Rattle.words.specs.Limits.{classRows}
 use Rattle.classes.specs.declared.Shape.{Shape}
 use Rattle.classes.specs.way.Sound.{Sound}
 use Rattle.fields.specs.Field.{arena, class, page, frontier, coldCount, words, get}
@@ -51,7 +52,7 @@ coldVirgin sh h = discardZeroed h && not (isMedium sh)
 -- ---- what is asked
 -- page q, with the words that parking reads in their ranges
 pub record ParkingPre (b : List ℕ) (c : ℕ) (sh : Shape) (q : ℕ) : Type 0 where
-  pub known : c < 76
+  pub known : c < classRows
   pub sound : Sound sh
   pub below : q < maxPages
   pub there : words (q + 1) ≤ length b
@@ -60,7 +61,7 @@ pub record ParkingPre (b : List ℕ) (c : ℕ) (sh : Shape) (q : ℕ) : Type 0 w
   pub row : rowValid b c ≡ true
 
 pub record ColdPre (b : List ℕ) (c : ℕ) (sh : Shape) (q : ℕ) : Type 0 where
-  pub known : c < 76
+  pub known : c < classRows
   pub sound : Sound sh
   pub below : q < maxPages
   pub there : words (q + 1) ≤ length b
@@ -68,14 +69,14 @@ pub record ColdPre (b : List ℕ) (c : ℕ) (sh : Shape) (q : ℕ) : Type 0 wher
 
 -- for either store
 pub record StorePre (b : List ℕ) (c : ℕ) (sh : Shape) (q : ℕ) : Type 0 where
-  pub known : c < 76
+  pub known : c < classRows
   pub sound : Sound sh
   pub below : q < maxPages
   pub there : words (q + 1) ≤ length b
   pub few : (k : Park) → get b (class (stored k) c) ≤ maxParked
 
 pub record BackPre (b : List ℕ) (c : ℕ) (sh : Shape) (q : ℕ) (ws : List ℕ) : Type 0 where
-  pub known : c < 76
+  pub known : c < classRows
   pub sound : Sound sh
   pub below : q < maxPages
   pub there : words (q + 1) ≤ length b

@@ -5,6 +5,7 @@ use mathlib.Core.List.{List, [], _∷_}
 use mathlib.Core.Path.{_≡_}
 use lib.Dec.{eqb}
 use lib.ListN.{length}
+use Rattle.words.specs.Limits.{classRows}
 use Rattle.classes.specs.declared.Shape.{Shape}
 use Rattle.fields.specs.Field.{class, page, partial, out, mark, free, carved, get, words}
 use Rattle.fields.specs.Ranges.{maxPages}
@@ -37,7 +38,7 @@ abbrev pub backBook : List ℕ → ℕ → ℕ → ℕ → List ℕ
 backBook b c q i = relisted (back b q (i ∷ [])) c q
 
 pub record PutPre (b : List ℕ) (c q i : ℕ) : Type 0 where
-  pub known : c < 76
+  pub known : c < classRows
   pub below : q < maxPages
   pub there : words (q + 1) ≤ length b
   pub head : words (get b (class partial c)) ≤ length b

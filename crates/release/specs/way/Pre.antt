@@ -6,6 +6,7 @@ use mathlib.Core.Path.{_≡_}
 use lib.Dec.{ltb}
 use lib.ListN.{length}
 use Rattle.facts.specs.Lists.{every}
+use Rattle.words.specs.Limits.{classRows}
 use Rattle.classes.specs.declared.Shape.{Shape}
 use Rattle.classes.specs.way.Sound.{Sound}
 use Rattle.fields.specs.Field.{words}
@@ -20,7 +21,7 @@ pub record InPre (b : List ℕ) (sh : Shape) (q : ℕ) : Type 0 where
 
 -- the class's runs, in an arena of n pages
 pub record ClassPre (n : ℕ) (b : List ℕ) (c : ℕ) (sh : Shape) : Type 0 where
-  pub known : c < 76
+  pub known : c < classRows
   pub sound : Sound sh
   pub few : n ≤ maxPages
   pub long : words n ≤ length b

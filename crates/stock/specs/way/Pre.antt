@@ -5,25 +5,31 @@ use mathlib.Core.List.{List}
 use mathlib.Core.Path.{_≡_}
 use lib.ListN.{length, getD}
 use Rattle.words.specs.Word.{kindOf, granuleOf}
-use Rattle.classes.specs.Shape.{shapeOf}
+use Rattle.classes.specs.Shape.{classCount, shapeOf}
 use Rattle.fields.specs.Field.{words}
 use Rattle.fields.specs.Ranges.{maxPages}
 use Rattle.poolcalls.specs.Stock.{countIn, stocked}
 
 pub record StockPre (b : List ℕ) (c : ℕ) : Type 0 where
-  pub known : c < 76
+  pub known : c < classCount
   pub long : 40000 ≤ length b
+
+-- a class that the pool serves: one that a caller names
+pub record PoolPre (n : ℕ) (b : List ℕ) (c : ℕ) : Type 0 where
+  pub known : c < classCount
+  pub few : n ≤ maxPages
+  pub long : words n ≤ length b
 
 -- a stock that has a block
 pub record TopPre (b : List ℕ) (c k : ℕ) : Type 0 where
-  pub known : c < 76
+  pub known : c < classCount
   pub long : 40000 ≤ length b
   pub counted : k ≡ countIn b c
   pub some : 1 ≤ k
 
 -- a granule of the arena
 pub record GranulePre (n : ℕ) (b : List ℕ) (c g : ℕ) : Type 0 where
-  pub known : c < 76
+  pub known : c < classCount
   pub few : n ≤ maxPages
   pub long : words n ≤ length b
   pub low : g < 4096 * n
@@ -50,7 +56,7 @@ pub record SmallPre (n : ℕ) (b : List ℕ) (c w : ℕ) : Type 0 where
 
 -- a word of the class's kind whose granule is in the arena
 pub record NearPre (n : ℕ) (b : List ℕ) (c g w : ℕ) : Type 0 where
-  pub known : c < 76
+  pub known : c < classCount
   pub few : n ≤ maxPages
   pub long : words n ≤ length b
   pub low : g < 4096 * n
@@ -59,7 +65,7 @@ pub record NearPre (n : ℕ) (b : List ℕ) (c g w : ℕ) : Type 0 where
 
 -- and not in stock
 pub record FreePre (n : ℕ) (b : List ℕ) (c g w : ℕ) : Type 0 where
-  pub known : c < 76
+  pub known : c < classCount
   pub few : n ≤ maxPages
   pub long : words n ≤ length b
   pub low : g < 4096 * n

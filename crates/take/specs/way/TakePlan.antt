@@ -9,6 +9,7 @@ use mathlib.Core.Path.{_≡_}
 use lib.Dec.{eqb, leb}
 use lib.ListN.{length, drop}
 use Rattle.words.specs.Host.{hostMax}
+use Rattle.words.specs.Limits.{classRows}
 use Rattle.classes.specs.declared.Shape.{Shape}
 use Rattle.classes.specs.way.Sound.{Sound}
 use Rattle.fields.specs.Field.{arena, class, page, frontier, partial, empty, owner, free, carved, next, prev, words, get}
@@ -24,7 +25,7 @@ use Rattle.take.specs.declared.take_plan.Plan.the-variants.{Refused, Fil
 use Rattle.calls.specs.Take.{sound, walk, Filled, unlistSpent, fillFrom}
 
 pub record TakePre (n : ℕ) (b : List ℕ) (c : ℕ) (sh : Shape) : Type 0 where
-  pub known : c < 76
+  pub known : c < classRows
   pub shape : Sound sh
   pub few : n ≤ maxPages
   pub long : words n ≤ length b
@@ -93,13 +94,13 @@ pub record TakeNewPre (n : ℕ) (b : List ℕ) (c : ℕ) (sh : Shape) : Type 0 w
   pub alone : get b (class partial c) ≡ 0
 
 pub record SourcePre (n : ℕ) (b : List ℕ) (c : ℕ) (sh : Shape) : Type 0 where
-  pub known : c < 76
+  pub known : c < classRows
   pub shape : Sound sh
   pub few : n ≤ maxPages
   pub long : words n ≤ length b
 
 pub record CallPre (n : ℕ) (b : List ℕ) (c : ℕ) : Type 0 where
-  pub known : c < 76
+  pub known : c < classRows
   pub few : n ≤ maxPages
   pub long : words n ≤ length b
 
@@ -113,7 +114,7 @@ Granted k sh h = k < sh .batch → h ≡ hostMax
 
 -- ---- the fill: one turn takes up to m blocks of the head page, to the places below `at`
 pub record TurnPre (b : List ℕ) (c : ℕ) (sh : Shape) (l : List ℕ) (at m : ℕ) : Type 0 where
-  pub known : c < 76
+  pub known : c < classRows
   pub some : 0 < get b (class partial c)
   pub draws : DrawPre b sh (get b (class partial c) - 1) l at m
   pub behind : words (get b (page next (get b (class partial c) - 1))) ≤ length b

@@ -1,5 +1,4 @@
-use Rattle.stock.proofs.AllocSteps.{took-pre, refill-refused, refill-took}
-use Rattle.take.proofs.TakeSteps.{whole-pre}
+use Rattle.stock.proofs.AllocSteps.{take-asks, took-pre, refill-refused, refill-took}
 use borrow.Author.Needs.{needs}
 use Rattle.stock.proofs.alloc.refill as f
 
@@ -7,7 +6,7 @@ slice-aggregate-take-call : f.Tie.Need-slice-aggregate-take-call
 slice-aggregate-take-call c = search needs
 
 take-call-requires : f.Tie.Need-take-call-requires
-take-call-requires c κs = search whole-pre
+take-call-requires c κs = search take-asks
 
 enum-known-k : f.Tie.Need-enum-known-k
 enum-known-k c = search needs
