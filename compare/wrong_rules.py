@@ -63,6 +63,7 @@ FROM_EMPTY = "takeFrom sh l [] (e ∷ es) cs fs = done (served l (fillFromList s
 # The boundary tests that look into the book.
 BOOK_TESTS = [
     "ranges::",
+    "format::",
     "marks::",
     "joins::stands",
     "chunks::chunks_give_their_runs_in_order",

@@ -16,7 +16,7 @@ const CRATES: &str = "crates.txt";
 
 /// The name that only an archive with this crate's calls has. `src/ffi.rs` calls it, but the linker would say less plainly what is
 /// wrong with another archive.
-const ABI: &str = "vigbuso_abi_6";
+const ABI: &str = "vigbuso_abi_7";
 
 fn main() {
     println!("cargo:rerun-if-changed=build.rs");

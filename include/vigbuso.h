@@ -6,7 +6,11 @@
  *
  * The book is a slice of 32-bit words that the caller lends to every call: a pointer, then a length in words of at least
  * VIGBUSO_BOOK_WORDS(pages). The heap keeps all that it knows there and nothing elsewhere. It never reads or writes the
- * arena's bytes, so they may stand anywhere.
+ * arena's bytes, so they may stand anywhere. A book that was never opened, or by an archive of another layout, is refused: as 13 where
+ * no earlier number applies.
+ *
+ * Blocks in batches (takes and releases), blocks one by one (the pool) and pages by hand (vigbuso_commit) may be mixed on one book in
+ * any way. Whatever the order of the calls, no two blocks or pages that are out share a byte.
  *
  * vigbuso_size_class, vigbuso_contains, vigbuso_class_of, vigbuso_granted and vigbuso_stocked return their answer. Every other call of the archive
  * returns 0 if it was carried out, otherwise the number of its refusal (enum vigbuso_refusal); the first that applies is returned. A refused call leaves the book, every
@@ -27,17 +31,17 @@ extern "C" {
 
 /* The version of this header and of the archive that it is for. */
 #define VIGBUSO_VERSION_MAJOR 0
-#define VIGBUSO_VERSION_MINOR 6
+#define VIGBUSO_VERSION_MINOR 7
 #define VIGBUSO_VERSION_PATCH 0
-#define VIGBUSO_VERSION "0.6.0"
+#define VIGBUSO_VERSION "0.7.0"
 
 /*
  * The number of the calls' form and of the book's words. It changes when a program or a book of before would be misread, and with
  * it the name below, which is no call and returns the number. Every file that includes this header refers to that name, so that no
  * archive of another number links.
  */
-#define VIGBUSO_ABI 6u
-uint32_t vigbuso_abi_6(void);
+#define VIGBUSO_ABI 7u
+uint32_t vigbuso_abi_7(void);
 
 /* The reference. It is kept by a compiler that finds it unused, and by a linker that drops sections (retain). */
 #if defined(__GNUC__)
@@ -49,7 +53,7 @@ uint32_t vigbuso_abi_6(void);
 #ifndef VIGBUSO_KEPT_BY_THE_LINKER
 #define VIGBUSO_KEPT_BY_THE_LINKER __attribute__((used))
 #endif
-static uint32_t (*const vigbuso_abi)(void) VIGBUSO_KEPT_BY_THE_LINKER = vigbuso_abi_6;
+static uint32_t (*const vigbuso_abi)(void) VIGBUSO_KEPT_BY_THE_LINKER = vigbuso_abi_7;
 #undef VIGBUSO_KEPT_BY_THE_LINKER
 #endif
 
@@ -128,7 +132,7 @@ enum vigbuso_kind { VIGBUSO_NONE = 0, VIGBUSO_SMALL = 1, VIGBUSO_MEDIUM = 2, VIG
 enum vigbuso_fate { VIGBUSO_KEPT = 0, VIGBUSO_COLD = 1, VIGBUSO_TO_ARENA = 2, VIGBUSO_RETIRED = 4 };
 
 /* Numbers of refusals, in checking order; vigbuso_refusal_text says what each means. 13 stands twice in that order: in a release by list or
- * by chunks a word of marks that is not 0 comes between 9 and 15, every other book word last. */
+ * by chunks a word of marks that is not 0 comes between 9 and 15, every other book word last, the book's format among them. */
 enum vigbuso_refusal {
     VIGBUSO_E_ARENA_LENGTH = 1,
     VIGBUSO_E_BOOK_TOO_SHORT = 2,
@@ -186,7 +190,8 @@ static inline const char *vigbuso_refusal_text(uint32_t number) {
     case 12:
         return "the run handed to release or to growth isn't wholly held by the direct calls";
     case 13:
-        return "another book word that the call reads is out of its range, or a listed page yields no block";
+        return "the book is of another format, another word of it that the call reads is out of its range, or a listed page yields "
+               "no block";
     case 14:
         return "the plan is empty, has lists of unequal length or above 4,096 entries, names a size above 65,472 or has a number "
                "above 1,000,000";
@@ -292,7 +297,8 @@ static inline uint32_t vigbuso_first_page(uint32_t size_class, uint64_t block) {
  *   rows   rows_len words, read: parking rules, VIGBUSO_ROW words to a row. A row has a first and a last class, small ones 0 to 63,
  *          medium ones 64 to 75, then how many empty and how many cold runs each of them keeps, 0 to VIGBUSO_LIMIT. Each class has just
  *          one row; their order is free. With none, rows_len 0, a small class keeps 4 empty and 256 cold pages, a medium one 32 empty
- *          and 256 cold spans. The empty spans of a medium class have 8 MiB at most in any case
+ *          and 256 cold spans. The empty spans of a medium class have 8 MiB at most in any case. A row is for the pool's class of
+ *          that number too, which parks for itself
  * Returns 0, or 1, 2, 19, 18, 17.
  */
 uint32_t vigbuso_open(uint32_t *book, size_t book_len, uint64_t pages, const uint32_t *rows, size_t rows_len);
@@ -455,8 +461,10 @@ static inline uint32_t vigbuso_release_all(uint32_t *book, size_t book_len, uint
 
 /*
  * The pool: one block out, one block back. It keeps a stock of blocks for each class in the book itself, and makes at most one take
- * or release for a call. Classes are 0 to 75 by one number: 0 to 63 small, 64 to 75 medium. Of a class that a pool is used for, no
- * block is taken or released by the other calls; those of other classes and the direct calls go on beside it.
+ * or release for a call. Classes are 0 to 75 by one number: 0 to 63 small, 64 to 75 medium. They have the sizes of the classes that
+ * takes and releases name, and yet are the pool's own, with pages of their own. So takes, releases and the pool's calls may be mixed
+ * in any way, of one size too: a release of a block that vigbuso_alloc gave is refused as 10, and so is vigbuso_free of a block that
+ * a take or a trace gave.
  *
  * Grants a block that nobody has.
  *   book   book_len words, written
@@ -468,7 +476,7 @@ uint32_t vigbuso_alloc(uint32_t *book, size_t book_len, uint32_t size_class, uin
 
 /*
  * Takes a block back that vigbuso_alloc gave in that class and that was not given back since. Any other is refused: 9 for the
- * other kind, 10 for one that is not out or is in stock.
+ * other kind, 10 for one that is not out, is in stock, or that a take or a trace gave.
  *   book   book_len words, written
  * Returns 0, or 1, 2, 3, 4, 9, 10, 13.
  */
@@ -478,31 +486,31 @@ uint32_t vigbuso_free(uint32_t *book, size_t book_len, uint32_t size_class, uint
  * Gives one block of a class's stock back to the heap. A stock is emptied by calls until block is VIGBUSO_NONE.
  *   book   book_len words, written
  *   block  the block that went back; VIGBUSO_NONE where the stock is empty
- * Returns 0, or 1, 2, 3, 4; on a damaged book alone 13 or 10.
+ * Returns 0, or 1, 2, 3, 4, 13; on a damaged book alone 10.
  */
 uint32_t vigbuso_trim(uint32_t *book, size_t book_len, uint32_t size_class, uint32_t host, uint64_t *block);
 
 /*
- * The class that has the page of a block's word: for vigbuso_free where the class is not at hand. It does not say that the block is out;
- * of a granted one it is the class that granted it.
+ * The number of the class that has the page of a block's word, the heap's and the pool's alike: for vigbuso_free where the class is not
+ * at hand. It does not say that the block is out, nor whose it is; of a granted one it is the class that granted it.
  *   book   book_len words, read
- * Returns 0 to 75; VIGBUSO_CLASSES, which vigbuso_free refuses as 4, where no class has the page, and on a book that another call refuses as 1 or 2. For a page that was
- * never handed out it is what the book happens to hold there; vigbuso_free refuses such a block.
+ * Returns 0 to 75; VIGBUSO_CLASSES, which vigbuso_free refuses as 4, where no class has the page, where it was never handed out, and on
+ * a book that another call refuses as 1, 2 or, for its format or its frontier, as 13.
  */
 uint32_t vigbuso_class_of(const uint32_t *book, size_t book_len, uint64_t block);
 
 /*
  * Whether vigbuso_alloc gave the block in that class and it was not given back since: what vigbuso_free takes.
  *   book   book_len words, read
- * Returns 1 or 0; 0 on a book that another call refuses as 1 or 2, and for VIGBUSO_CLASSES or more.
+ * Returns 1 or 0; 0 on a book that another call refuses as 1, 2 or, for its format, as 13, and for VIGBUSO_CLASSES or more.
  */
 uint32_t vigbuso_granted(const uint32_t *book, size_t book_len, uint32_t size_class, uint64_t block);
 
 /*
  * How many blocks a class has in stock: so many trims empty it.
  *   book   book_len words, read
- * Returns 0 to 255; 0 on a book that another call refuses as 1 or 2, for VIGBUSO_CLASSES or more, and where the number in the book is out of
- * its range (13).
+ * Returns 0 to 255; 0 on a book that another call refuses as 1, 2 or, for its format, as 13, for VIGBUSO_CLASSES or more, and where
+ * the number in the book is out of its range (13).
  */
 uint32_t vigbuso_stocked(const uint32_t *book, size_t book_len, uint32_t size_class);
 

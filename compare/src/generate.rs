@@ -101,7 +101,7 @@ impl Maker {
         self.push(host, Intent::Commit { pages: 1 });
     }
 
-    fn look(&mut self) {
+    pub fn look(&mut self) {
         match self.random.below(3) {
             0 => self.add(Intent::Contains),
             _ => self.add(Intent::Report),

@@ -3,20 +3,25 @@
 //! From this the tool knows which calls lie in document 01's domain, and tells what the original does not: the number
 //! of a refused call, and the report's pages held.
 
-use std::collections::BTreeMap;
+use std::collections::{BTreeMap, VecDeque};
 
 use crate::call::{Answer, Call, PoolRequest};
 use crate::oracle;
-use crate::stocks::Stocks;
+use crate::planned;
+use crate::stocks::{Stocks, KNOWN};
 use crate::words::{
-    chunk_count, chunk_page, kind_of, page_of, Family, Word, CHUNK_KIND, HOST_ALL, MAX_CHUNKS, RUN_LIMIT, SMALL_CLASSES,
+    chunk_count, chunk_page, kind_of, page_of, Family, Owner, Word, CHUNK_KIND, HOST_ALL, MAX_CHUNKS, RUN_LIMIT,
+    SMALL_CLASSES,
 };
 
-/// Small classes, then medium ones.
+/// Small classes, then medium ones: the numbers that a caller can name.
 pub const CLASSES: usize = 76;
+/// The heap's classes, then the pool's.
+const IDS: usize = 2 * CLASSES;
 
+/// Who holds a page: nobody, a class by its id + 1, or the direct calls.
 const NOBODY: u8 = 0;
-const DIRECT: u8 = 77;
+const DIRECT: u8 = IDS as u8 + 1;
 const NOWHERE: u32 = u32::MAX;
 
 /// The blocks that are out of one page or span.
@@ -36,15 +41,28 @@ pub struct Ledger {
     out: Vec<Vec<Out>>,
     direct: BTreeMap<u32, u32>,
     held: u64,
+    /// Released blocks of the heap's classes, with their class's number.
+    back: VecDeque<(u32, Word)>,
     /// Of the pool; what is in stock no answer tells.
     pub stocks: Stocks,
 }
 
+/// The id of a class of the heap, which is its number.
 pub fn class_id(family: Family, class: u32) -> usize {
     match family {
         Family::Small => class as usize,
         Family::Medium => (SMALL_CLASSES + class) as usize,
     }
+}
+
+/// The id of the pool's class with a number.
+pub fn pool_id(number: u32) -> usize {
+    CLASSES + number as usize
+}
+
+/// The number of the class with an id.
+fn number_of(id: usize) -> u32 {
+    (id % CLASSES) as u32
 }
 
 impl Ledger {
@@ -55,9 +73,10 @@ impl Ledger {
             owner: vec![NOBODY; len],
             run: vec![0; len],
             place: vec![NOWHERE; len],
-            out: vec![Vec::new(); CLASSES],
+            out: vec![Vec::new(); IDS],
             direct: BTreeMap::new(),
             held: 0,
+            back: VecDeque::new(),
             stocks: Stocks::new(),
         }
     }
@@ -71,16 +90,33 @@ impl Ledger {
         self.held
     }
 
-    /// Pages and spans of the class that have blocks out.
+    /// Pages and spans of the heap's class that have blocks out.
     pub fn out(&self, family: Family, class: u32) -> &[Out] {
         &self.out[class_id(family, class)]
     }
 
-    /// Whether a word is a block that is out in this class, which need not be there.
+    /// Pages and spans of the pool's class that have blocks out: granted ones, or in stock.
+    pub fn pool_out(&self, number: u32) -> &[Out] {
+        &self.out[pool_id(number)]
+    }
+
+    /// Whether a word is a block that is out in this class of the heap, which need not be there.
     pub fn is_out(&self, family: Family, class: u32, word: Word) -> bool {
         class < family.classes()
             && kind_of(word) == family.kind()
             && self.count_out(class_id(family, class), &[word]) == 1
+    }
+
+    /// The number of the heap's class in which a word is a block that is out.
+    pub fn entry_class(&self, word: Word) -> Option<u32> {
+        let (owner, number) = self.class_at(page_of(word))?;
+        let (family, class) = planned::family(number);
+        (owner == Owner::Heap && self.is_out(family, class, word)).then_some(number)
+    }
+
+    /// Released blocks of the heap's classes, with their class's number; the last ones alone.
+    pub fn back(&self) -> &VecDeque<(u32, Word)> {
+        &self.back
     }
 
     /// The first page of a block's page or span. The block is out.
@@ -88,12 +124,19 @@ impl Ledger {
         self.run[page_of(word) as usize]
     }
 
-    /// The class that has a block's page, by one number; 76 for none.
+    /// The number of the class that has a block's page, be it the heap's or the pool's; 76 for none.
     pub fn class_of(&self, word: Word) -> u32 {
-        match self.owner.get(page_of(word) as usize) {
-            None | Some(&NOBODY | &DIRECT) => CLASSES as u32,
-            Some(&owner) => u32::from(owner) - 1,
+        self.class_at(page_of(word)).map_or(CLASSES as u32, |(_, number)| number)
+    }
+
+    /// The class that has a page, which need not be there.
+    pub fn class_at(&self, page: u64) -> Option<(Owner, u32)> {
+        let owner = *self.owner.get(usize::try_from(page).ok()?)?;
+        if owner == NOBODY || owner == DIRECT {
+            return None;
         }
+        let id = usize::from(owner) - 1;
+        Some((if id < CLASSES { Owner::Heap } else { Owner::Pool }, number_of(id)))
     }
 
     /// Runs of the direct calls, by first page.
@@ -113,19 +156,19 @@ impl Ledger {
     pub fn note(&mut self, call: &Call, answer: &Answer, run_of: impl Fn(Family, Word) -> u32) {
         match (call, answer) {
             (Call::Take { family, class, .. }, Answer::Taken { words, .. }) => {
-                for &word in words {
-                    self.hand_out(*family, *class, run_of(*family, word), word);
-                }
+                self.note_taken(class_id(*family, *class), words, |word| run_of(*family, word));
             }
             (Call::ReleaseBlocks { family, class, list, .. }, Answer::Fate(fate)) => {
-                let first = self.run[page_of(list[0]) as usize];
-                self.take_back(*family, *class, first, &sorted(list), *fate);
+                let id = class_id(*family, *class);
+                self.note_released(id, list, *fate);
+                self.note_back(id, list);
             }
             (Call::ReleaseChunks { class, list, chunks, .. }, Answer::Fates(fates)) => {
-                let gone = sorted(list);
+                let (id, gone) = (class_id(Family::Small, *class), sorted(list));
                 for (&chunk, &fate) in chunks.iter().zip(fates) {
-                    self.take_back(Family::Small, *class, chunk_page(chunk) as u32, &gone, fate);
+                    self.take_back(id, chunk_page(chunk) as u32, &gone, fate);
                 }
+                self.note_back(id, list);
             }
             (Call::Commit { pages, .. }, Answer::Run { first, .. }) => self.hold(*first, *pages as u32),
             (Call::Grow { first, old, new, .. }, Answer::Grown(true)) => {
@@ -142,10 +185,24 @@ impl Ledger {
         }
     }
 
-    fn hand_out(&mut self, family: Family, class: u32, first: u32, word: Word) {
-        let id = class_id(family, class);
+    /// Takes in the blocks of a take of the class with an id. `run_of` tells the first page of a block's page or span.
+    pub fn note_taken(&mut self, id: usize, words: &[Word], run_of: impl Fn(Word) -> u32) {
+        words.iter().for_each(|&word| self.hand_out(id, run_of(word), word));
+    }
+
+    /// Takes in the fate of a release of one page's or span's blocks, out in the class with an id.
+    pub fn note_released(&mut self, id: usize, list: &[Word], fate: u32) {
+        self.take_back(id, self.first_page(list[0]), &sorted(list), fate);
+    }
+
+    fn note_back(&mut self, id: usize, list: &[Word]) {
+        self.back.extend(list.iter().take(KNOWN).map(|&word| (number_of(id), word)));
+        self.back.drain(..self.back.len().saturating_sub(KNOWN));
+    }
+
+    fn hand_out(&mut self, id: usize, first: u32, word: Word) {
         if self.owner[first as usize] != id as u8 + 1 {
-            let pages = oracle::run_pages(family, class);
+            let pages = run_pages(id);
             self.own(first, pages, id as u8 + 1);
             self.run[first as usize..(first + pages) as usize].fill(first);
             self.place[first as usize] = NOWHERE;
@@ -158,8 +215,7 @@ impl Ledger {
     }
 
     /// Of the run at `first`, the words in `gone`, which is sorted, are out no more.
-    fn take_back(&mut self, family: Family, class: u32, first: u32, gone: &[Word], fate: u32) {
-        let id = class_id(family, class);
+    fn take_back(&mut self, id: usize, first: u32, gone: &[Word], fate: u32) {
         let at = self.place[first as usize] as usize;
         self.out[id][at].words.retain(|word| gone.binary_search(word).is_err());
         if self.out[id][at].words.is_empty() {
@@ -170,7 +226,7 @@ impl Ledger {
             }
         }
         if fate % 4 == 2 {
-            self.own(first, oracle::run_pages(family, class), NOBODY);
+            self.own(first, run_pages(id), NOBODY);
         }
     }
 
@@ -260,8 +316,8 @@ impl Ledger {
         (self.count_out(id, &words) != words.len()).then_some(10)
     }
 
-    /// How many of these words, which are sorted, are blocks out in a class.
-    fn count_out(&self, id: usize, words: &[Word]) -> usize {
+    /// How many of these words, which are sorted, are blocks out in the class with an id.
+    pub fn count_out(&self, id: usize, words: &[Word]) -> usize {
         let held = |word: &&Word| self.owner.get(page_of(**word) as usize) == Some(&(id as u8 + 1));
         let mut runs: Vec<u32> = words.iter().filter(held).map(|&word| self.run[page_of(word) as usize]).collect();
         runs.dedup();
@@ -299,6 +355,12 @@ impl Ledger {
             && pages <= length - first
             && self.owner[first as usize..(first + pages) as usize].iter().all(|&owner| owner == DIRECT)
     }
+}
+
+/// Pages of a run of the class with an id.
+fn run_pages(id: usize) -> u32 {
+    let (family, class) = planned::family(number_of(id));
+    oracle::run_pages(family, class)
 }
 
 fn sorted(list: &[Word]) -> Vec<Word> {

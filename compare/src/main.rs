@@ -56,6 +56,8 @@ const USAGE: &str = "usage: compare COMMAND [--NAME VALUE ..]
                histories that were written down, on the port
   pool         [--calls N] [--seed S] [--scenario NAME]
                random histories of the pool's calls, on a plain pool over the original and on the port
+  mixed        [--calls N] [--seed S] [--scenario NAME]
+               the same of every call, with the heap's and the pool's on the same classes
   model-test   [--calls N] [--seed S] [--scenario NAME] [--longest STEPS] [--file F] [--repository FOLDER] [--rules original]
                histories with the original's answers, computed by the checker on the model
   damaged      [--calls N] [--seed S] [--kinds all|blocks|pool] [--only HISTORY]
@@ -95,7 +97,8 @@ fn main() -> ExitCode {
         Some("histories") => histories::histories(rest),
         Some("record") => histories::record(rest),
         Some("replay") => histories::replay(rest),
-        Some("pool") => pool::run(rest),
+        Some("pool") => pool::run(rest, &pool::SCENARIOS),
+        Some("mixed") => pool::run(rest, &pool::mixed::SCENARIOS),
         Some("model-test") => model_test::run(rest),
         Some("damaged") => damaged::run(rest),
         Some("marks") => marks::run(rest),

@@ -4,7 +4,7 @@
 use crate::call::{Call, Lent, Look, PoolRequest};
 use crate::ledger::{Ledger, Out};
 use crate::oracle;
-use crate::pool::wrong as wrong_pool;
+use crate::pool::{crossed, wrong as wrong_pool};
 use crate::random::Random;
 use crate::words::{block_word, chunk_word, page_of, Family, Word, MAX_CHUNKS, PAGE_BYTES, PAGE_GRANULES, RUN_LIMIT};
 
@@ -96,6 +96,10 @@ pub enum Intent {
     WrongPool {
         class: u32,
     },
+    /// A call that names what the other of heap and pool has.
+    Crossed {
+        class: u32,
+    },
 }
 
 #[derive(Clone, PartialEq, Eq, Debug)]
@@ -163,6 +167,7 @@ impl Step {
             }
             Intent::Look { class } => Some(Call::Look(look(&mut random, ledger, class))),
             Intent::WrongPool { class } => Some(wrong_pool::call(&mut random, ledger, class, host)),
+            Intent::Crossed { class } => crossed::call(&mut random, ledger, class, host),
         }
     }
 }

@@ -1,16 +1,16 @@
 //! One history on the original, with document 02's parts in it or without them: its answers, with the numbers of refused calls and the pages held from the ledger.
 
-use crate::call::{Answer, Call, Lent, Look, PoolRequest};
-use crate::ledger::Ledger;
+use crate::call::{Answer, Call, Look, PoolRequest};
+use crate::ledger::{pool_id, Ledger};
 use crate::oracle::rules::Rules;
 use crate::oracle::Original;
 use crate::planned::{family, CLASSES};
-use crate::words::{Word, SMALL_BATCH};
+use crate::words::{Owner, Word};
 
 pub struct Reference {
     original: Original,
     pub ledger: Ledger,
-    /// What the heap answered to the take or release that the last call of the pool made, if it made one.
+    /// What was answered to the take or release of the pool's class that the last call of the pool made, if it made one.
     pub heap: Option<Answer>,
 }
 
@@ -52,11 +52,11 @@ impl Reference {
         let original = &mut self.original;
         match call {
             Call::Take { family, class, host, .. } => {
-                let (words, virgin) = original.take_blocks(*family, *class, *host);
+                let (words, virgin) = original.take_blocks(Owner::Heap, *family, *class, *host);
                 Answer::Taken { virgin, words }
             }
             Call::ReleaseBlocks { family, class, host, list } => {
-                Answer::Fate(original.release_blocks(*family, *class, *host, list))
+                Answer::Fate(original.release_blocks(Owner::Heap, *family, *class, *host, list))
             }
             Call::ReleaseChunks { class, host, list, chunks, .. } => {
                 Answer::Fates(original.release_bin_chunks(*class, *host, list, chunks))
@@ -91,7 +91,7 @@ impl Reference {
         }
     }
 
-    /// The pool's calls, over the original's takes and releases. A free's block is granted in the class.
+    /// The pool's calls, over takes and releases of its own classes by the original. A free's block is granted in the class.
     fn pool(&mut self, request: PoolRequest, class: u32, host: u32) -> Answer {
         self.heap = None;
         match request {
@@ -121,17 +121,19 @@ impl Reference {
     }
 
     fn taken(&mut self, class: u32, host: u32) -> Vec<Word> {
-        let (family, class) = family(class);
-        let answer = self.answer(&Call::Take { family, class, host, lent: Lent { len: SMALL_BATCH, fill: 0 } });
-        self.heap = Some(answer.clone());
-        let Answer::Taken { words, .. } = answer else { panic!("the pool's take is answered by {answer:?}") };
+        let (family, number) = family(class);
+        let (words, virgin) = self.original.take_blocks(Owner::Pool, family, number, host);
+        let original = &self.original;
+        self.ledger.note_taken(pool_id(class), &words, |word| original.run_of(family, word));
+        self.heap = Some(Answer::Taken { virgin, words: words.clone() });
         words
     }
 
     fn give_back(&mut self, class: u32, host: u32, word: Word) {
-        let (family, class) = family(class);
-        let answer = self.answer(&Call::ReleaseBlocks { family, class, host, list: vec![word] });
-        assert!(matches!(answer, Answer::Fate(_)), "the pool's release is answered by {answer:?}");
-        self.heap = Some(answer);
+        let (family, number) = family(class);
+        assert_eq!(self.ledger.count_out(pool_id(class), &[word]), 1, "the pool gives back what is out in its class");
+        let fate = self.original.release_blocks(Owner::Pool, family, number, host, &[word]);
+        self.ledger.note_released(pool_id(class), &[word], fate);
+        self.heap = Some(Answer::Fate(fate));
     }
 }

@@ -25,7 +25,7 @@ use std::ffi::{c_char, CStr};
 use std::slice;
 use std::sync::{Mutex, MutexGuard};
 
-use call::{Answer, Call, Lent};
+use call::{Answer, Call, Lent, Look, PoolRequest};
 use planned::{planned, Planned};
 use reference::Reference;
 use sizes::{original, size_class};
@@ -273,6 +273,55 @@ pub unsafe extern "C" fn vigbuso_release_bin_chunks(
         let Answer::Fates(seen) = answer else { unreachable!("groups answer fates") };
         fates.copy_from(seen.as_ptr(), seen.len());
     })
+}
+
+unsafe fn pool(book: *const u32, class: u32, host: u32, request: PoolRequest, block: *mut Word) -> u32 {
+    returned(ask(book, Call::Pool { request, class, host }), |answer| {
+        if let Answer::Block(word) = answer {
+            block.write(word);
+        }
+    })
+}
+
+#[no_mangle]
+pub unsafe extern "C" fn vigbuso_alloc(book: *mut u32, _words: usize, class: u32, host: u32, block: *mut Word) -> u32 {
+    pool(book, class, host, PoolRequest::Alloc, block)
+}
+
+#[no_mangle]
+pub unsafe extern "C" fn vigbuso_free(book: *mut u32, _words: usize, class: u32, host: u32, block: Word) -> u32 {
+    pool(book, class, host, PoolRequest::Free(block), std::ptr::null_mut())
+}
+
+#[no_mangle]
+pub unsafe extern "C" fn vigbuso_trim(book: *mut u32, _words: usize, class: u32, host: u32, block: *mut Word) -> u32 {
+    pool(book, class, host, PoolRequest::Trim, block)
+}
+
+fn look(book: *const u32, look: Look) -> u32 {
+    let Answer::Told(told) = ask(book, Call::Look(look)) else { unreachable!("a look is told") };
+    told
+}
+
+#[no_mangle]
+pub unsafe extern "C" fn vigbuso_class_of(book: *const u32, _words: usize, block: Word) -> u32 {
+    look(book, Look::ClassOf(block))
+}
+
+#[no_mangle]
+pub unsafe extern "C" fn vigbuso_granted(book: *const u32, _words: usize, class: u32, block: Word) -> u32 {
+    look(book, Look::Granted { class, block })
+}
+
+#[no_mangle]
+pub unsafe extern "C" fn vigbuso_stocked(book: *const u32, _words: usize, class: u32) -> u32 {
+    look(book, Look::Stocked { class })
+}
+
+/// The tests refer to it; those that call it look at words of the book, and are not run here.
+#[no_mangle]
+pub extern "C" fn vigbuso_trace() -> u32 {
+    unreachable!("the original has no trace")
 }
 
 /// The stored histories of a file, asked of the original: 0 if it answers as they say, 1 if not, and then the first call

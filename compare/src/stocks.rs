@@ -11,8 +11,8 @@ const STOCK_BYTES: usize = 262_144;
 const STOCK_LEAST: usize = 8;
 const STOCK_LIMIT: usize = 255;
 
-/// Blocks that were given back are known for so long.
-const KNOWN: usize = 400;
+/// So many of the blocks that were given back are known.
+pub const KNOWN: usize = 400;
 
 /// A block that is out of the heap and that nobody has.
 #[derive(Clone, Copy, PartialEq, Eq, Debug)]
@@ -45,6 +45,11 @@ impl Stocks {
 
     pub fn stock(&self, class: u32) -> &[Stocked] {
         &self.stock[class as usize]
+    }
+
+    /// Whether the block is in a class's stock.
+    pub fn has(&self, class: u32, word: Word) -> bool {
+        self.stock(class).iter().any(|stocked| stocked.word == word)
     }
 
     pub fn granted(&self, class: u32) -> &[Word] {

@@ -110,7 +110,7 @@ impl fmt::Display for Tally {
             writeln!(out, "  {:<22} {times:>12} refused as {number}", kind.name())?;
         }
         for (event, times) in &self.events {
-            writeln!(out, "  {event:<34} {times:>12}")?;
+            writeln!(out, "  {event:<46} {times:>12}")?;
         }
         write!(out, "  most holes {}, most hole pages {}", self.most_holes, self.most_hole_pages)
     }

@@ -5,7 +5,6 @@ use std::sync::Mutex;
 use crate::call::{Answer, Call, Due, Lent, Look, PoolRequest};
 use crate::generate::{self, SCENARIOS};
 use crate::history::{self, History};
-use crate::ledger::Ledger;
 use crate::oracle::asked;
 use crate::oracle::rules::Rules;
 use crate::plan::{Intent, Place, Plan, Step};
@@ -273,30 +272,86 @@ fn a_full_stock() {
 #[test]
 fn blocks_that_share_a_byte_are_told() {
     let block = |granule| Answer::Block(block_word(Family::Small, granule));
-    let mut ledger = Ledger::new(8);
-    ledger.note(&commit(HOST_ALL, 1), &run_at(2, true), |_, _| 0);
-    let mut apart = Apart::default();
+    let mut apart = Apart::new(8);
+    assert!(apart.note(&commit(HOST_ALL, 1), &run_at(2, true)).is_ok());
     // Class 1 has blocks of 32 bytes.
-    assert!(apart.note(&alloc(1), &block(3), &ledger).is_ok());
-    assert!(apart.note(&alloc(1), &block(5), &ledger).is_ok());
-    assert!(apart.note(&alloc(1), &block(4), &ledger).is_err());
-    assert!(apart.note(&alloc(0), &block(6), &ledger).is_err());
-    assert!(apart.note(&alloc(0), &block(2 * 4_096 + 7), &ledger).is_err());
-    assert!(apart.note(&commit(HOST_ALL, 1), &run_at(0, true), &ledger).is_err());
-    assert!(apart.note(&commit(HOST_ALL, 1), &run_at(1, true), &ledger).is_ok());
+    assert!(apart.note(&alloc(1), &block(3)).is_ok());
+    assert!(apart.note(&alloc(1), &block(5)).is_ok());
+    assert!(apart.note(&alloc(1), &block(4)).is_err());
+    assert!(apart.note(&alloc(0), &block(6)).is_err());
+    assert!(apart.note(&alloc(0), &block(2 * 4_096 + 7)).is_err());
+    assert!(apart.note(&alloc(0), &block(8 * 4_096)).is_err());
+    assert!(apart.note(&take(Family::Small, 0), &taken(small(&[7, 8]), true)).is_ok());
+    assert!(apart.note(&take(Family::Small, 1), &taken(small(&[9, 5]), true)).is_err());
+    assert!(apart.note(&alloc(0), &block(8)).is_err());
+    assert!(apart.note(&commit(HOST_ALL, 1), &run_at(0, true)).is_err());
+    assert!(apart.note(&commit(HOST_ALL, 2), &run_at(1, true)).is_err());
+    assert!(apart.note(&give(2, 1), &Answer::Released).is_ok());
+    assert!(apart.note(&give(2, 1), &Answer::Released).is_err());
+    assert!(apart.note(&release(0, &[8, 7]), &Answer::Fate(0)).is_ok());
+    assert!(apart.note(&release(0, &[8]), &Answer::Fate(0)).is_err());
+    assert!(apart.note(&alloc(0), &block(8)).is_ok());
 }
 
-/// Some calls of each of the pool's scenarios, compared with the port and read back from their text.
+/// Heap and pool have pages of their own, and refuse each other's blocks: class 45 has three a page.
+#[test]
+fn heap_and_pool_side_by_side() {
+    let words = |page: u64| [2_051, 1_027, 3].map(|granule| block_word(Family::Small, 4_096 * page + granule));
+    let ([_, of_heap, _], [high, middle, low]) = (words(0), words(1));
+    let list = |block| Call::ReleaseBlocks { family: Family::Small, class: 45, host: HOST_ALL, list: vec![block] };
+    let calls = [
+        take(Family::Small, 45),
+        alloc(45),
+        list(low),  // granted
+        list(high), // in stock
+        free(45, of_heap),
+        Call::Look(Look::ClassOf(of_heap)),
+        Call::Look(Look::ClassOf(low)),
+        Call::Look(Look::Granted { class: 45, block: of_heap }),
+        list(of_heap),
+        free(45, of_heap),
+        free(45, low),
+        list(low),
+        give(1, 1),
+        take(Family::Small, 45),
+        alloc(45),
+        alloc(45),
+    ];
+    let refused = Answer::Refused;
+    let due = [
+        taken(words(0).to_vec(), true),
+        Answer::Block(low),
+        refused(10),
+        refused(10),
+        refused(10),
+        Answer::Told(45),
+        Answer::Told(45),
+        Answer::Told(0),
+        Answer::Fate(0),
+        refused(10),
+        Answer::Freed,
+        refused(10),
+        refused(12),
+        taken(vec![of_heap], false),
+        Answer::Block(low),
+        Answer::Block(middle),
+    ];
+    assert_eq!(answers(&calls), due);
+}
+
+/// Some calls of each scenario of the pool's and of the mixed ones, compared with the port and read back from their text.
 #[test]
 fn the_pools_scenarios() {
     let _alone = ORIGINAL.lock().unwrap_or_else(|poisoned| poisoned.into_inner());
     let mut random = Random::new(7);
-    for scenario in &pool::SCENARIOS {
-        let plan = pool::plan(&mut random, Some(scenario.name));
-        let history = History { pages: plan.pages, rows: plan.rows.clone(), calls: run::record(&plan, |_| true) };
-        assert_eq!(history::parse(&history.text()), Ok(vec![history]));
-        let words = ["--calls", "3000", "--scenario", scenario.name].map(String::from);
-        assert_eq!(pool::run(&words), Ok(true), "{}", scenario.name);
+    for scenarios in [&pool::SCENARIOS[..], &pool::mixed::SCENARIOS[..]] {
+        for scenario in scenarios {
+            let plan = pool::plan(&mut random, scenarios, Some(scenario.name));
+            let history = History { pages: plan.pages, rows: plan.rows.clone(), calls: run::record(&plan, |_| true) };
+            assert_eq!(history::parse(&history.text()), Ok(vec![history]));
+            let words = ["--calls", "3000", "--scenario", scenario.name].map(String::from);
+            assert_eq!(pool::run(&words, scenarios), Ok(true), "{}", scenario.name);
+        }
     }
 }
 

@@ -22,6 +22,10 @@ pub const fn book_words(pages: u32) -> usize {
     40_000 + 4_112 * pages as usize
 }
 
+/// FORMAT (docs/RANGES.md): the word of a book that an opening writes and every other call tests, and what it writes there.
+pub const FORMAT_WORD: usize = 12;
+pub const FORMAT: u32 = 1_447_642_935;
+
 /// The host word's bits.
 pub const HOST_RESERVE: u32 = 1;
 pub const HOST_COMMIT: u32 = 2;
@@ -49,6 +53,13 @@ impl Family {
             Family::Medium => MEDIUM_CLASSES,
         }
     }
+}
+
+/// Whose classes: those of the heap's own takes and releases, or the pool's, with the same sizes and limits.
+#[derive(Clone, Copy, PartialEq, Eq, Debug)]
+pub enum Owner {
+    Heap,
+    Pool,
 }
 
 /// A block's or a group's word (document 02, A.11): the kind in the top two bits.

@@ -48,7 +48,8 @@ pub enum Kind {
 /// - A *foreign* block was never handed out by this heap: made from a number, or of another heap. A release refuses it as
 ///   `NotOut`, or as [`WrongKind`](crate::Refusal::WrongKind) if it is of the other family, unless the same block of this
 ///   heap happens to be out.
-/// - A block that is out in another class is `NotOut` in this one.
+/// - A block that is out in another class is `NotOut` in this one. A [`Pool`](crate::Pool)'s classes are others than the heap's of the
+///   same size: what the pool has granted is `NotOut` in a release, and what a take has handed out in a pool's free.
 /// - A block that is out and stands twice in one list is refused as [`Repeated`](crate::Refusal::Repeated).
 ///
 /// No such block makes a call read or write anything but the book. A [`Pool`](crate::Pool) refuses all of these at once, until it has

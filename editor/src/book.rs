@@ -1,6 +1,7 @@
 //! What the crate itself knows of a book's words (docs/RANGES.md), and copies of memory that is mostly 0.
 
 use alloc::vec::Vec;
+use core::ops::Range;
 
 use crate::ffi::{self, Unsigned};
 
@@ -8,7 +9,7 @@ use crate::ffi::{self, Unsigned};
 const FRONTIER: usize = 2;
 
 /// ENTRY 0 of class 0, and the entries of each class.
-const ENTRIES: usize = 9_216;
+const ENTRIES: usize = 10_240;
 pub(crate) const ENTRIES_OF_CLASS: usize = 256;
 
 /// OWNER of page 0. Those of 256 pages stand together, each beside FIRST, in the record of the first of these pages.
@@ -16,8 +17,9 @@ const OWNERS: usize = 43_344;
 const GROUP: usize = 256;
 const RECORD: usize = 4_112;
 
-/// OWNER of a page that the direct calls hold.
-const DIRECT: u32 = 77;
+/// OWNER of a page of the pool's classes, and of one that the direct calls hold. Those of the heap's classes are below, and nobody is 0.
+const POOLS: Range<u32> = 77..153;
+const DIRECT: u32 = 153;
 
 /// Integers that are copied, or not, together: a page of the system has 4,096 bytes.
 const CHUNK: usize = 512;
@@ -27,10 +29,19 @@ pub(crate) fn frontier(book: &[u32]) -> u64 {
     book.get(FRONTIER).copied().map_or(0, u64::from)
 }
 
-/// Whether the direct calls hold a page.
+fn owner(book: &[u32], page: u64) -> Option<u32> {
+    let page = usize::try_from(page).ok()?;
+    book.get(OWNERS + RECORD * GROUP * (page / GROUP) + 2 * (page % GROUP)).copied()
+}
+
+/// Whether the direct calls hold a page below the frontier.
 pub(crate) fn held_by_hand(book: &[u32], page: u64) -> bool {
-    let place = usize::try_from(page).ok().map(|page| OWNERS + RECORD * GROUP * (page / GROUP) + 2 * (page % GROUP));
-    place.and_then(|place| book.get(place)) == Some(&DIRECT)
+    owner(book, page) == Some(DIRECT)
+}
+
+/// Whether a class of the pool has a page below the frontier.
+pub(crate) fn is_pools(book: &[u32], page: u64) -> bool {
+    owner(book, page).is_some_and(|owner| POOLS.contains(&owner))
 }
 
 /// The first granules of the blocks that a pool has in stock for the class at a place, so many of them.

@@ -30,7 +30,8 @@ const SPAN_BLOCKS: usize = 8;
 /// A class of blocks that have one size: one of 64 small classes, whose blocks stand on single pages, or of 12 medium ones,
 /// whose blocks stand in spans of several pages.
 ///
-/// [`Class::for_size`] finds the class of a record; takes and releases go by it.
+/// [`Class::for_size`] finds the class of a record; takes and releases go by it. A [`Pool`](crate::Pool) has as many classes of its own,
+/// of the same sizes and by the same names.
 ///
 /// ```
 /// use vigbuso::{Class, Heap, Kind};

@@ -9,14 +9,13 @@ use crate::{Block, Handle, Refusal};
 /// Later versions may have more of them.
 ///
 /// ```
-/// use vigbuso::{Class, Error, Heap, Pool, Refusal};
+/// use vigbuso::{Class, Error, Pool, Refusal};
 ///
 /// fn both() -> Result<(), Error> {
 ///     let mut pool = Pool::try_open(64)?;
 ///     let block = pool.alloc(100)?;
+///     pool.heap_mut().release(Class::for_size(100).unwrap(), &[block])?; // it is the pool's
 ///     pool.free(block)?;
-///     let mut heap = pool.into_heap()?;
-///     heap.release(Class::for_size(100).unwrap(), &[block])?;
 ///     Ok(())
 /// }
 /// assert_eq!(both().unwrap_err().refusal(), Some(Refusal::NotOut));
@@ -366,7 +365,7 @@ impl error::Error for AllocError {}
 pub enum LoadError {
     /// They do not begin as a save does.
     NotASave,
-    /// They are a save in another format.
+    /// They are a save in another format: 1 was that of 0.6.0.
     Format(u32),
     /// They end too early.
     Cut,

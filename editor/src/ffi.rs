@@ -27,7 +27,7 @@ use alloc::vec::Vec;
 use crate::{Block, Chunk, Class, Fate, Figures, Growth, Host, Kind, Refusal, Report, Run, Word};
 
 extern "C" {
-    fn vigbuso_abi_6() -> u32;
+    fn vigbuso_abi_7() -> u32;
     fn vigbuso_size_class(size: u64, class: *mut u32) -> u32;
     fn vigbuso_plan(sizes: *const u32, sizes_len: usize, takes: *const u32, takes_len: usize, total: *mut u64) -> u32;
     fn vigbuso_open(book: *mut u32, book_len: usize, pages: u64, rows: *const u32, rows_len: usize) -> u32;
@@ -120,7 +120,7 @@ extern "C" {
 /// Every opening refers to the name of the archive's number, so that no archive of another number links.
 fn assert_abi() {
     // SAFETY: nothing is lent.
-    assert_eq!(unsafe { vigbuso_abi_6() }, 6);
+    assert_eq!(unsafe { vigbuso_abi_7() }, 7);
 }
 
 /// Whether a call was carried out.

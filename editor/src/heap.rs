@@ -6,6 +6,7 @@ use alloc::vec::Vec;
 use core::fmt;
 
 use crate::book::copy_used;
+use crate::pool::Granted;
 use crate::{
     ffi, Block, Chunk, Class, Committed, Fate, Host, OpenError, Refusal, ReleaseError, Report, Rules, Run, Taken,
 };
@@ -57,11 +58,12 @@ pub const fn book_words(pages: u64) -> usize {
 /// assert_eq!(heap, before);
 /// # Ok::<(), Refusal>(())
 /// ```
-#[derive(PartialEq, Eq)]
 pub struct Heap<B = Vec<u32>> {
     pub(crate) book: B,
     pages: u64,
     pub(crate) host: Host,
+    /// What a pool has granted here. It goes wherever the book goes, so that no pool counts another heap's blocks.
+    pub(crate) granted: Granted,
 }
 
 impl Heap {
@@ -173,19 +175,20 @@ impl<B: AsRef<[u32]> + AsMut<[u32]>> Heap<B> {
 
     /// A heap whose book was opened for so many pages.
     pub(crate) fn opened(book: B, pages: u64) -> Heap<B> {
-        Heap { book, pages, host: Host::GRANTED }
+        Heap { book, pages, host: Host::GRANTED, granted: Granted::default() }
     }
 
     /// Goes on with a book as an earlier heap left it, which may have been stored meanwhile. Its length and its arena's record
     /// are tested here; if other words of it were damaged, calls that come to them are refused as
     /// [`BookWord`](Refusal::BookWord). No damage makes a call unsafe.
     ///
-    /// On a [`Pool`](crate::Pool)'s book the blocks in stock go back first, so that those out are those that the pool has granted.
+    /// On a [`Pool`](crate::Pool)'s book the blocks in stock go back first, so that their pages serve every class. What the pool has
+    /// granted stays out, and is the pool's: a release of it is refused. `Pool::from` makes the heap a pool's again, and
     /// [`Pool::resume`](crate::Pool::resume) keeps the stocks. [`Heap::load`] has the book from a file, and finds out what was changed
     /// there.
     ///
-    /// The book must be of this version: before 0.5.0 its words stood elsewhere, and no word of it says so. Such a book is as a damaged
-    /// one: calls on it are safe, and their answers mean nothing.
+    /// A book says of which layout it is. Before 0.7.0 its words stood elsewhere: such a book is refused, and so is one that was never
+    /// opened.
     ///
     /// ```
     /// use vigbuso::{Class, Heap};
@@ -227,11 +230,13 @@ impl<B: AsRef<[u32]> + AsMut<[u32]>> Heap<B> {
     pub(crate) fn resume_stocked(book: B) -> Result<Heap<B>, Refusal> {
         ffi::report(book.as_ref())?;
         let pages = book.as_ref().first().copied().map_or(0, u64::from);
-        Ok(Heap::opened(book, pages))
+        let mut heap = Heap::opened(book, pages);
+        heap.granted = heap.count_granted();
+        Ok(heap)
     }
 
-    /// Opens the heap anew on the same book: every block and every run that was out is forgotten, and so are parking rules of its
-    /// own. The host word is kept.
+    /// Opens the heap anew on the same book: every block and every run that was out is forgotten, a [`Pool`](crate::Pool)'s too, and
+    /// so are parking rules of its own. The host word is kept.
     ///
     /// ```
     /// # use vigbuso::{Class, Heap};
@@ -246,9 +251,7 @@ impl<B: AsRef<[u32]> + AsMut<[u32]>> Heap<B> {
     ///
     /// [`Refusal::ArenaLength`], [`BookTooShort`](Refusal::BookTooShort); the heap is as it was then.
     pub fn reopen(&mut self, pages: u64) -> Result<(), Refusal> {
-        ffi::open(self.book.as_mut(), pages, &[])?;
-        self.pages = pages;
-        Ok(())
+        self.open_again(pages, &[])
     }
 
     /// Opens the heap anew as [`Heap::reopen`] does, with parking rules of its own.
@@ -264,8 +267,12 @@ impl<B: AsRef<[u32]> + AsMut<[u32]>> Heap<B> {
     ///
     /// As [`Heap::reopen`]; [`Refusal::Rows`] for a limit above [`Rules::MOST`]. The heap is as it was then, with its old rules.
     pub fn reopen_with(&mut self, pages: u64, rules: &Rules) -> Result<(), Refusal> {
-        ffi::open(self.book.as_mut(), pages, &rules.rows())?;
-        self.pages = pages;
+        self.open_again(pages, &rules.rows())
+    }
+
+    fn open_again(&mut self, pages: u64, rows: &[u32]) -> Result<(), Refusal> {
+        ffi::open(self.book.as_mut(), pages, rows)?;
+        (self.pages, self.granted) = (pages, Granted::default());
         Ok(())
     }
 
@@ -638,6 +645,15 @@ impl<B: AsRef<[u32]> + AsMut<[u32]>> Heap<B> {
         ffi::report(self.book.as_ref())
     }
 }
+
+/// What a pool has granted stands in the book.
+impl<B: PartialEq> PartialEq for Heap<B> {
+    fn eq(&self, other: &Heap<B>) -> bool {
+        self.book == other.book && self.pages == other.pages && self.host == other.host
+    }
+}
+
+impl<B: Eq> Eq for Heap<B> {}
 
 /// A clone of a heap with a book of its own touches only the words that are not 0.
 impl Clone for Heap {

@@ -48,6 +48,21 @@
 //! # Ok::<(), vigbuso::Error>(())
 //! ```
 //!
+//! Both may be used on one arena, in any mixture and for the same sizes: a pool [lends its heap](Pool::heap_mut).
+//!
+//! ```
+//! use vigbuso::{Class, Pool};
+//!
+//! let mut pool = Pool::open(64)?;
+//! let class = Class::for_size(24).expect("at most 65,472 bytes");
+//! let name = pool.alloc(24)?;
+//! let mut records = pool.heap_mut().take(class)?; // 64 others of 32 bytes
+//! assert!(pool.heap_mut().release(class, &[name]).is_err() && pool.free(records[0]).is_err());
+//! pool.heap_mut().release_all(class, &mut records)?;
+//! pool.free(name)?;
+//! # Ok::<(), vigbuso::Error>(())
+//! ```
+//!
 //! Every call of the library on a heap is a method of [`Heap`] or [`Pool`]; the size lookup is [`Class::for_size`]. [`plan`] works out,
 //! before a large fill, how many pages it needs, and [`Heap::from_trace`], after one, what figures its [`Trace`] comes to. Beside the
 //! heap are [`class_table`], [`asker_wins`] and [`short_histories`], which lists all that can happen in a few direct calls: those that
@@ -61,11 +76,11 @@
 //! | [`Heap::commit`], [`Heap::grow_frontier`], [`Heap::release_run`] | [`Heap::release_chunks`] | [`Pool::flush`] |
 //!
 //! The code behind the methods of [`Heap`] and [`Pool`] is proved: what each call answers and leaves behind is a definition, and the
-//! library is built only if the code does just that. So it is proved that a block in use is never granted again, and that just the
-//! blocks granted and not yet freed can be freed. This crate itself is not proved but tested: the types over those calls, [`Region`] and
-//! [`Store`] on top, and saves; what can be misused, in debug and in release builds. Document 01, which the comments cite, is
-//! the paper that states the heap's rules; `docs/CALLS.md` of the repository describes the C functions and which of them
-//! may change places, `docs/DEMANDS.md` what is proved of them.
+//! library is built only if the code does just that. So it is proved, of every history of calls, that a block in use is never handed
+//! out again, and that just the blocks granted and not yet freed can be freed. This crate itself is not proved but tested: the types
+//! over those calls, [`Region`] and [`Store`] on top, and saves; what can be misused, in debug and in release builds. Document 01,
+//! which the comments cite, is the paper that states the heap's rules; `docs/CALLS.md` of the repository describes the C functions
+//! and which of them may change places, `docs/DEMANDS.md` what is proved of them.
 //!
 //! The crate needs no `std`, only `alloc`.
 #![no_std]

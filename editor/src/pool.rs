@@ -4,7 +4,7 @@ use alloc::vec::Vec;
 use core::fmt;
 use core::ops::Range;
 
-use crate::book::{entries, frontier, held_by_hand};
+use crate::book::{entries, frontier, held_by_hand, is_pools};
 use crate::{
     ffi, AllocError, Block, Class, Committed, FreeError, Heap, Host, OpenError, Refusal, Report, Rules, Run, Word,
 };
@@ -12,15 +12,17 @@ use crate::{
 /// A heap that hands blocks out and takes them back one by one. It keeps a stock of blocks for each class, so that the arena is
 /// seldom asked.
 ///
-/// What `alloc` and `free` do is proved, as the heap's calls are: of every history of a pool's calls, two blocks granted and not yet
-/// freed share no byte, and a free is carried out exactly if its block was granted and not freed since. Every other block is refused
+/// What `alloc` and `free` do is proved, as the heap's calls are: of every history of calls, the heap's among them, two blocks that are
+/// out share no byte, and a free is carried out exactly if its block was granted and not freed since. Every other block is refused
 /// and nothing changes, in every build: freed twice, stale, of another class or kind, inside another block, or never its own. What no
 /// call can tell: once the same block was granted again, an old copy of its [`Block`] names the new grant. An old
 /// handle of a [`Region`](crate::Region) is refused then too.
 ///
+/// The heap below can be used beside the pool, in any mixture and for the same sizes: [`heap_mut`](Pool::heap_mut) lends it. For each
+/// class of the heap the pool has one of its own, with pages of its own, so neither can give back what the other handed out.
+///
 /// All that a pool knows stands in its book, the stocks too. So a pool is a value as a heap is: cloned, compared,
-/// [saved](Pool::save) and [resumed](Pool::resume). Nobody else releases its blocks: of its heap it lends the direct calls and the
-/// report alone.
+/// [saved](Pool::save) and [resumed](Pool::resume).
 ///
 /// ```
 /// use vigbuso::{Error, Pool, PAGE_BYTES};
@@ -37,9 +39,13 @@ use crate::{
 /// ```
 pub struct Pool<B = Vec<u32>> {
     heap: Heap<B>,
-    /// How many blocks are granted, and their bytes. The book has each of them, but not these sums.
-    used: usize,
-    used_bytes: usize,
+}
+
+/// How many blocks a pool has granted and not had back, and their bytes. The book has each of them, but not these sums.
+#[derive(Clone, Copy, Default)]
+pub(crate) struct Granted {
+    blocks: usize,
+    bytes: usize,
 }
 
 impl Pool {
@@ -79,7 +85,7 @@ impl Pool {
     ///
     /// As [`Heap::open_with`].
     pub fn open_with(pages: u64, rules: &Rules) -> Result<Pool, Refusal> {
-        Heap::open_with(pages, rules).map(Pool::unused)
+        Heap::open_with(pages, rules).map(Pool::from)
     }
 
     /// Opens a pool as [`Pool::open`] does, and answers where there is no memory for the book.
@@ -98,16 +104,11 @@ impl Pool {
     }
 
     pub(crate) fn try_open_with(pages: u64, rules: &Rules) -> Result<Pool, OpenError> {
-        Heap::try_open_with(pages, rules).map(Pool::unused)
+        Heap::try_open_with(pages, rules).map(Pool::from)
     }
 }
 
 impl<B: AsRef<[u32]> + AsMut<[u32]>> Pool<B> {
-    /// A pool on a new heap: no block is out.
-    fn unused(heap: Heap<B>) -> Pool<B> {
-        Pool { heap, used: 0, used_bytes: 0 }
-    }
-
     /// A pool on a new heap with a book that the caller lends or gives, as [`Heap::on`]. No class parks a run.
     ///
     /// ```
@@ -138,15 +139,15 @@ impl<B: AsRef<[u32]> + AsMut<[u32]>> Pool<B> {
     ///
     /// As [`Heap::on_with`].
     pub fn on_with(book: B, pages: u64, rules: &Rules) -> Result<Pool<B>, Refusal> {
-        Heap::on_with(book, pages, rules).map(Pool::unused)
+        Heap::on_with(book, pages, rules).map(Pool::from)
     }
 
     /// Goes on with a book as an earlier pool left it: what was granted is granted still, and what was in stock is in stock. Length
     /// and arena's record are tested as [`Heap::resume`] does; a book that was damaged elsewhere makes no call unsafe, but what calls
-    /// answer may mean nothing.
+    /// answer may mean nothing. All blocks of the pool's pages are gone over once, to count those in use.
     ///
-    /// Every block that is out and in no stock counts as granted, so on a book of a [`Heap`] those that its takes have handed out. (What
-    /// is proved speaks of pools from their opening on.) All blocks are gone over once, to count those in use.
+    /// A book of a [`Heap`] will do as well. What its takes have handed out stays out and does not count as granted: it goes back by
+    /// the [heap's releases](Pool::heap_mut), and a free of it is refused.
     ///
     /// ```
     /// # use vigbuso::Pool;
@@ -162,15 +163,7 @@ impl<B: AsRef<[u32]> + AsMut<[u32]>> Pool<B> {
     ///
     /// As [`Heap::resume`].
     pub fn resume(book: B) -> Result<Pool<B>, Refusal> {
-        Heap::resume_stocked(book).map(Pool::counted)
-    }
-
-    /// A pool on a heap as an earlier one left it.
-    pub(crate) fn counted(heap: Heap<B>) -> Pool<B> {
-        let mut pool = Pool::unused(heap);
-        let (used, bytes) = pool.blocks().fold((0, 0), |(used, bytes), (_, class)| (used + 1, bytes + class.bytes()));
-        (pool.used, pool.used_bytes) = (used, bytes);
-        pool
+        Heap::resume_stocked(book).map(Pool::from)
     }
 
     /// A block for a record of so many bytes.
@@ -211,8 +204,7 @@ impl<B: AsRef<[u32]> + AsMut<[u32]>> Pool<B> {
             Some(block) => block,
             None => self.alloc_flushed(class)?,
         };
-        self.used += 1;
-        self.used_bytes += class.bytes();
+        self.heap.granted.add(class);
         Ok(block)
     }
 
@@ -242,8 +234,9 @@ impl<B: AsRef<[u32]> + AsMut<[u32]>> Pool<B> {
     ///
     /// # Errors
     ///
-    /// [`Refusal::NotOut`] for every block that the pool has not granted or has had back, [`WrongKind`](Refusal::WrongKind) if it is
-    /// a small one where a span stands, or the reverse; nothing changes then. Another refusal only on a damaged book.
+    /// [`Refusal::NotOut`] for every block that the pool has not granted or has had back, a block of the [heap's](Pool::heap_mut) takes
+    /// too, [`WrongKind`](Refusal::WrongKind) if it is a small one where a span stands, or the reverse; nothing changes then. Another
+    /// refusal only on a damaged book.
     #[inline]
     pub fn free(&mut self, block: Block) -> Result<(), FreeError> {
         let class = ffi::class_of(self.heap.book.as_ref(), block);
@@ -269,9 +262,7 @@ impl<B: AsRef<[u32]> + AsMut<[u32]>> Pool<B> {
     pub fn free_in(&mut self, class: Class, block: Block) -> Result<(), FreeError> {
         ffi::free(self.heap.book.as_mut(), class, self.heap.host, block)
             .map_err(|refusal| FreeError::new(refusal, block))?;
-        // Only a book that others write too has more granted than was counted.
-        self.used = self.used.saturating_sub(1);
-        self.used_bytes = self.used_bytes.saturating_sub(class.bytes());
+        self.heap.granted.remove(class);
         Ok(())
     }
 
@@ -340,7 +331,7 @@ impl<B: AsRef<[u32]> + AsMut<[u32]>> Pool<B> {
     }
 
     /// The blocks that the pool has granted and not had back, each with its class, in the order of their pages. It asks for every
-    /// block of every page that was ever handed out.
+    /// block of every page that the pool has. Those of the [heap's](Pool::heap_mut) takes are not among them.
     ///
     /// ```
     /// # use vigbuso::{Class, Pool};
@@ -353,12 +344,7 @@ impl<B: AsRef<[u32]> + AsMut<[u32]>> Pool<B> {
     /// # Ok::<(), vigbuso::Error>(())
     /// ```
     pub fn blocks(&self) -> impl Iterator<Item = (Block, Class)> + '_ {
-        let book = self.heap.book();
-        let runs = (0..frontier(book).min(self.heap.pages())).filter_map(move |page| {
-            let class = ffi::class_of(book, Block::first_of(page))?;
-            Some(class.blocks(page).map(move |block| (block, class)))
-        });
-        runs.flatten().filter(move |&(block, class)| ffi::granted(book, class, block))
+        self.heap.granted_blocks()
     }
 
     /// Gives every block in stock back to the heap.
@@ -380,15 +366,18 @@ impl<B: AsRef<[u32]> + AsMut<[u32]>> Pool<B> {
         self.heap.flush()
     }
 
-    /// Flushes the pool and gives the heap back. What was granted is out there.
+    /// Flushes the pool and gives the heap back. What was granted stays out, and is the pool's: a release of it is refused. Once the
+    /// heap is a pool's again, by `Pool::from` or [`Pool::resume`], it can be freed.
     ///
     /// ```
-    /// # use vigbuso::{Heap, Pool};
+    /// # use vigbuso::{Pool, Refusal};
     /// let mut pool = Pool::open(64)?;
     /// let block = pool.alloc(100)?;
     /// let class = pool.class_of(block).unwrap();
     /// let mut heap = pool.into_heap()?;
-    /// heap.release(class, &[block])?;
+    /// assert_eq!(heap.release(class, &[block]).unwrap_err().refusal(), Refusal::NotOut);
+    /// let mut pool = Pool::from(heap);
+    /// pool.free(block)?;
     /// # Ok::<(), vigbuso::Error>(())
     /// ```
     ///
@@ -425,9 +414,42 @@ impl<B: AsRef<[u32]> + AsMut<[u32]>> Pool<B> {
         self.heap.book()
     }
 
-    /// The heap below. A program is not lent it: a clone of it would have the stocks too, and could release their blocks.
-    pub(crate) fn heap(&self) -> &Heap<B> {
+    /// The heap below, to be asked.
+    ///
+    /// ```
+    /// # use vigbuso::Pool;
+    /// let mut pool = Pool::open(64)?;
+    /// pool.alloc(100)?;
+    /// assert_eq!(pool.heap().report()?.held, 1);
+    /// # Ok::<(), vigbuso::Error>(())
+    /// ```
+    #[must_use]
+    pub fn heap(&self) -> &Heap<B> {
         &self.heap
+    }
+
+    /// The heap below, for blocks in batches beside the pool's. Both may use the same class, in any order. A release of a block
+    /// that the pool has granted, or has in stock, is refused as [`NotOut`](Refusal::NotOut), and so is a [`free`](Pool::free) of a
+    /// block that a take has handed out; nothing changes then.
+    ///
+    /// A take or a commit here leaves the pool's stocks alone. Where it answers none, a [`flush`](Pool::flush) may give it pages.
+    /// [Opened anew](Heap::reopen), the heap forgets the pool's blocks with all others.
+    ///
+    /// ```
+    /// # use vigbuso::{Class, Pool, Refusal};
+    /// let mut pool = Pool::open(64)?;
+    /// let class = Class::for_size(100).unwrap();
+    /// let block = pool.alloc_in(class)?;
+    /// let mut batch = pool.heap_mut().take(class)?; // 64 more, on a page of their own
+    /// assert_eq!(pool.heap_mut().release(class, &[block]).unwrap_err().refusal(), Refusal::NotOut);
+    /// assert_eq!(pool.free(batch[0]).unwrap_err().refusal(), Refusal::NotOut);
+    /// pool.heap_mut().release_all(class, &mut batch)?;
+    /// pool.free(block)?;
+    /// # Ok::<(), vigbuso::Error>(())
+    /// ```
+    #[must_use]
+    pub fn heap_mut(&mut self) -> &mut Heap<B> {
+        &mut self.heap
     }
 
     /// The arena's length.
@@ -593,8 +615,8 @@ impl<B: AsRef<[u32]> + AsMut<[u32]>> Pool<B> {
     ///
     /// As [`Heap::report`].
     pub fn report(&self) -> Result<PoolReport, Refusal> {
-        let arena = self.heap.report()?;
-        let none = PoolReport { used: self.used, used_bytes: self.used_bytes, stocked: 0, stocked_bytes: 0, arena };
+        let (arena, Granted { blocks: used, bytes: used_bytes }) = (self.heap.report()?, self.heap.granted);
+        let none = PoolReport { used, used_bytes, stocked: 0, stocked_bytes: 0, arena };
         Ok(Class::all().fold(none, |sum, class| {
             let stocked = self.stocked(class);
             let stocked_bytes = sum.stocked_bytes + stocked * class.bytes();
@@ -603,12 +625,67 @@ impl<B: AsRef<[u32]> + AsMut<[u32]>> Pool<B> {
     }
 }
 
+impl<B: AsRef<[u32]> + AsMut<[u32]>> Heap<B> {
+    /// The blocks that a pool has granted here and not had back, each with its class.
+    fn granted_blocks(&self) -> impl Iterator<Item = (Block, Class)> + '_ {
+        let book = self.book();
+        let pages = (0..frontier(book).min(self.pages())).filter(move |&page| is_pools(book, page));
+        let runs = pages.filter_map(move |page| {
+            let class = ffi::class_of(book, Block::first_of(page))?;
+            Some(class.blocks(page).map(move |block| (block, class)))
+        });
+        runs.flatten().filter(move |&(block, class)| ffi::granted(book, class, block))
+    }
+
+    /// How many they are, by going over all of them.
+    pub(crate) fn count_granted(&self) -> Granted {
+        let mut granted = Granted::default();
+        self.granted_blocks().for_each(|(_, class)| granted.add(class));
+        granted
+    }
+}
+
+impl Granted {
+    #[inline]
+    fn add(&mut self, class: Class) {
+        self.blocks += 1;
+        self.bytes += class.bytes();
+    }
+
+    /// Only a book that others write too has more granted than was counted.
+    #[inline]
+    fn remove(&mut self, class: Class) {
+        self.blocks = self.blocks.saturating_sub(1);
+        self.bytes = self.bytes.saturating_sub(class.bytes());
+    }
+}
+
+/// A pool on a heap as it is: what a pool has granted there before is granted, and blocks of the heap's takes stay the heap's.
+///
+/// ```
+/// use vigbuso::{Class, Heap, Pool};
+///
+/// let mut heap = Heap::open(64)?;
+/// let class = Class::for_size(100).unwrap();
+/// let mut batch = heap.take(class)?;
+/// let mut pool = Pool::from(heap);
+/// let block = pool.alloc_in(class)?;
+/// assert!(!batch.contains(&block) && pool.free(batch[0]).is_err());
+/// pool.heap_mut().release_all(class, &mut batch)?;
+/// # Ok::<(), vigbuso::Error>(())
+/// ```
+impl<B> From<Heap<B>> for Pool<B> {
+    fn from(heap: Heap<B>) -> Pool<B> {
+        Pool { heap }
+    }
+}
+
 impl<B> Clone for Pool<B>
 where
     Heap<B>: Clone,
 {
     fn clone(&self) -> Pool<B> {
-        Pool { heap: self.heap.clone(), ..*self }
+        Pool { heap: self.heap.clone() }
     }
 }
 
@@ -624,7 +701,7 @@ impl<B: Eq> Eq for Pool<B> {}
 impl<B: AsRef<[u32]>> fmt::Debug for Pool<B> {
     fn fmt(&self, f: &mut fmt::Formatter) -> fmt::Result {
         let mut pool = f.debug_struct("Pool");
-        pool.field("heap", &self.heap).field("used", &self.used).finish_non_exhaustive()
+        pool.field("heap", &self.heap).field("used", &self.heap.granted.blocks).finish_non_exhaustive()
     }
 }
 

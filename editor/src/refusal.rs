@@ -63,7 +63,7 @@ refusals! {
     10 NotOut "a block is not out in this class"
     11 OtherPage "a block is on another page or span than the first; for chunks, a page twice, a count 0 or not the list's, a page missing"
     12 NotHeld "the run handed to release or to growth isn't wholly held by the direct calls"
-    13 BookWord "another book word that the call reads is out of its range, or a listed page yields no block"
+    13 BookWord "the book is of another format, another word of it that the call reads is out of its range, or a listed page yields no block"
     14 Plan "the plan is empty, has lists of unequal length or above 4,096 entries, names a size above 65,472 or has a number above 1,000,000"
     15 Repeated "a block that is out in this class stands twice in the list"
     16 Stopped "a word of the trace has kind 3, is a report with other bits set, names a class above 75 or a place not out, or a lent list is full"

@@ -16,7 +16,8 @@ struct Limits {
 /// Every class has just one pair of limits, whatever is built, so that no class can be left out or named twice. A limit is 0 to
 /// [`Rules::MOST`]; an opening with a larger one is refused as [`Refusal::Rows`](crate::Refusal::Rows). Empty runs come back as
 /// they were left, cold ones as new; with 0 and 0 an emptied run goes to the arena at once. The empty spans of a medium class have
-/// 8 MiB together at most, beside their limit.
+/// 8 MiB together at most, beside their limit. A [`Pool`](crate::Pool)'s class has the limits of the heap's of that size, and parks for
+/// itself.
 ///
 /// ```
 /// use vigbuso::{Class, Fate, Heap, Rules};

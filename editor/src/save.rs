@@ -22,7 +22,7 @@ use crate::heap::{book_words, own_words, zeroes};
 use crate::{Heap, Host, LoadError, OpenError, Pool, Record};
 
 const MAGIC: [u8; 8] = *b"vigbuso\x1a";
-const FORMAT: u32 = 1;
+const FORMAT: u32 = 2;
 
 /// Bytes before the words, and the checksum's behind them.
 const HEAD: usize = 36;
@@ -279,7 +279,7 @@ impl Pool {
     /// The pool that a save begins with, and the rest.
     pub(crate) fn read(content: Content, bytes: &[u8]) -> Result<(Pool, Reader<'_>), LoadError> {
         let mut reader = Reader::new(content, bytes)?;
-        Ok((Pool::counted(reader.heap()?), reader))
+        Ok((Pool::from(reader.heap()?), reader))
     }
 }
 

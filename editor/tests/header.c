@@ -20,7 +20,15 @@ static void is(int line, const char *what, uint64_t found, uint64_t expected) {
 enum { PAGES = 64, HOST = VIGBUSO_HOST_GRANTED };
 
 static const size_t words = VIGBUSO_BOOK_WORDS(PAGES);
-static uint32_t *book;
+static uint32_t *book, *before;
+
+/* The call is refused, and no word of the book changes. */
+#define REFUSED(call, number)                                \
+    do {                                                     \
+        memcpy(before, book, words * sizeof *book);          \
+        IS(call, number);                                    \
+        IS(memcmp(before, book, words * sizeof *book), 0);   \
+    } while (0)
 
 /* A size is of this class; too large leaves the out-parameter. */
 static void sized(uint64_t size, uint32_t kind, uint32_t number) {
@@ -119,7 +127,7 @@ static void texts(void) {
     char version[32];
     sprintf(version, "%d.%d.%d", VIGBUSO_VERSION_MAJOR, VIGBUSO_VERSION_MINOR, VIGBUSO_VERSION_PATCH);
     IS(strcmp(version, VIGBUSO_VERSION), 0);
-    IS(vigbuso_abi_6(), VIGBUSO_ABI);
+    IS(vigbuso_abi_7(), VIGBUSO_ABI);
     IS(strcmp(vigbuso_refusal_text(VIGBUSO_E_HOST_WORD), "the host word exceeds 15"), 0);
     IS(strcmp(vigbuso_refusal_text(0), "carried out"), 0);
     IS(strcmp(vigbuso_refusal_text(UINT32_MAX), "no refusal has this number"), 0);
@@ -354,6 +362,97 @@ static void pool(void) {
     IS(block, VIGBUSO_NONE);
 }
 
+/* No two blocks of so many bytes share one. */
+static void disjoint(uint64_t *list, size_t len, uint64_t bytes) {
+    vigbuso_sort(list, len);
+    for (size_t at = 1; at < len; at++) {
+        IS(VIGBUSO_BYTE_OFFSET(list[at - 1]) + bytes <= VIGBUSO_BYTE_OFFSET(list[at]), 1);
+    }
+}
+
+/* Heap and pool on one book, of one size. Were the release done, the take would get the block that the pool has granted. */
+static void granted_and_released(void) {
+    uint64_t block = 0, list[VIGBUSO_BATCH];
+    const uint64_t chunk = VIGBUSO_CHUNK_WORD(1, 0);
+    uint32_t count = 0, virgin = 0, fate = 7;
+    IS(vigbuso_open(book, words, PAGES, NULL, 0), 0);
+    IS(vigbuso_alloc(book, words, 45, HOST, &block), 0);
+    IS(VIGBUSO_GRANULE(block), 3);
+    REFUSED(vigbuso_release_blocks(book, words, 45, HOST, &block, 1, &fate), VIGBUSO_E_NOT_OUT);
+    REFUSED(vigbuso_release_bin_chunks(book, words, 45, HOST, &block, 1, &chunk, 1, &fate, 1), VIGBUSO_E_NOT_OUT);
+    IS(fate, 7);
+    IS(vigbuso_take_blocks(book, words, 45, HOST, list, VIGBUSO_BATCH, &count, &virgin), 0);
+    IS(count, 3);
+    list[3] = block;
+    IS(vigbuso_alloc(book, words, 45, HOST, &list[4]), 0);
+    IS(vigbuso_alloc(book, words, 45, HOST, &list[5]), 0);
+    IS(vigbuso_alloc(book, words, 45, HOST, &list[6]), 0);
+    disjoint(list, 7, 16384);
+    IS(vigbuso_class_of(book, words, block), 45);
+    IS(vigbuso_free(book, words, 45, HOST, block), 0);
+}
+
+/* Were the release done, the block would be in stock and yet the heap's to hand out. */
+static void freed_and_released(void) {
+    uint64_t block = 0, list[VIGBUSO_BATCH + 1];
+    uint32_t count = 0, virgin = 0, fate = 7;
+    IS(vigbuso_open(book, words, PAGES, NULL, 0), 0);
+    IS(vigbuso_alloc(book, words, 75, HOST, &block), 0);
+    IS(vigbuso_free(book, words, 75, HOST, block), 0);
+    REFUSED(vigbuso_medium_release_blocks(book, words, 11, HOST, &block, 1, &fate), VIGBUSO_E_NOT_OUT);
+    IS(vigbuso_alloc(book, words, 45, HOST, &block), 0);
+    IS(vigbuso_free(book, words, 45, HOST, block), 0);
+    REFUSED(vigbuso_release_blocks(book, words, 45, HOST, &block, 1, &fate), VIGBUSO_E_NOT_OUT);
+    IS(vigbuso_take_blocks(book, words, 45, HOST, list, VIGBUSO_BATCH, &count, &virgin), 0);
+    IS(vigbuso_alloc(book, words, 45, HOST, &list[count]), 0);
+    disjoint(list, count + 1, 16384);
+    IS(fate, 7);
+}
+
+/* Were the free done, the pool would grant what a take has handed out, the caller's or a trace's. */
+static void taken_and_freed(void) {
+    const uint32_t take = VIGBUSO_TRACE_TAKE(45);
+    uint64_t list[VIGBUSO_BATCH], done[3];
+    uint32_t count = 0, virgin = 0, fate = 7;
+    for (int traced = 0; traced < 2; traced++) {
+        if (traced) {
+            IS(vigbuso_trace(book, words, PAGES, &take, 1, list, VIGBUSO_BATCH, NULL, 0, done), 0);
+            count = (uint32_t)done[1];
+        } else {
+            IS(vigbuso_open(book, words, PAGES, NULL, 0), 0);
+            IS(vigbuso_take_blocks(book, words, 45, HOST, list, VIGBUSO_BATCH, &count, &virgin), 0);
+        }
+        IS(count, 3);
+        for (uint32_t at = 0; at < count; at++) {
+            IS(vigbuso_class_of(book, words, list[at]), 45);
+            IS(vigbuso_granted(book, words, 45, list[at]), 0);
+            REFUSED(vigbuso_free(book, words, 45, HOST, list[at]), VIGBUSO_E_NOT_OUT);
+        }
+        IS(vigbuso_alloc(book, words, 45, HOST, &list[count]), 0);
+        disjoint(list, count + 1, 16384);
+        IS(vigbuso_release_blocks(book, words, 45, HOST, list, count, &fate), 0);
+    }
+}
+
+/* Zeros but for the length: whatever the book was made for, no opening of this layout has made it. */
+static void never_opened(void) {
+    uint64_t list[VIGBUSO_BATCH], block = 7, figures[VIGBUSO_FIGURES];
+    uint32_t count = 7, virgin = 7;
+    memset(book, 0, words * sizeof *book);
+    book[0] = PAGES;
+    REFUSED(vigbuso_report(book, words, figures), VIGBUSO_E_BOOK_WORD);
+    REFUSED(vigbuso_commit(book, words, HOST, 1, &count, &virgin), VIGBUSO_E_BOOK_WORD);
+    REFUSED(vigbuso_take_blocks(book, words, 0, HOST, list, VIGBUSO_BATCH, &count, &virgin), VIGBUSO_E_BOOK_WORD);
+    REFUSED(vigbuso_alloc(book, words, 0, HOST, &block), VIGBUSO_E_BOOK_WORD);
+    REFUSED(vigbuso_trim(book, words, 0, HOST, &block), VIGBUSO_E_BOOK_WORD);
+    IS(count == 7 && virgin == 7 && block == 7, 1);
+    IS(vigbuso_contains(book, words, 0, 0), 0);
+    IS(vigbuso_class_of(book, words, (uint64_t)VIGBUSO_SMALL << 62 | 3), VIGBUSO_CLASSES);
+    IS(vigbuso_stocked(book, words, 0), 0);
+    IS(vigbuso_open(book, words, PAGES, NULL, 0), 0);
+    IS(vigbuso_report(book, words, figures), 0);
+}
+
 /* A take, a release and a report; then a place that is not out. On a book of its own: a trace opens it. */
 static void trace(void) {
     const uint32_t says[4] = {VIGBUSO_TRACE_TAKE(45), VIGBUSO_TRACE_RELEASE(1), VIGBUSO_TRACE_REPORT, VIGBUSO_TRACE_RELEASE(1)};
@@ -433,7 +532,8 @@ static void short_histories(void) {
 
 int main(void) {
     book = (uint32_t *)calloc(words, sizeof *book);
-    if (book == NULL) {
+    before = (uint32_t *)calloc(words, sizeof *before);
+    if (book == NULL || before == NULL) {
         return 2;
     }
     lookups();
@@ -456,6 +556,11 @@ int main(void) {
     release_all();
     runs_of_classes();
     nothing_lent();
+    granted_and_released();
+    freed_and_released();
+    taken_and_freed();
+    never_opened();
+    free(before);
     free(book);
     printf("%d differences\n", differences);
     return differences != 0;

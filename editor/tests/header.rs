@@ -64,18 +64,31 @@ fn a_c_program_stores_records() {
     }
 }
 
+/// The same of the heap, the pool and pages by hand in one program.
+#[test]
+fn a_c_program_mixes_heap_and_pool() {
+    let due = "released: a block is not out in this class\n\
+        5 and 3 leave 4: 4+3 5+2 0+2 2+0 2+3 5+0\n\
+        6 and 4 leave 5: never\n\
+        9 and 4 leave 6: 6+4 9+1 0+1 1+0 1+4 5+0 5+4 9+0\n\
+        11 and 7 leave 5: 5+7 11+1 0+1 1+0 1+7 8+0 8+7 11+4 0+4 4+0 4+7 11+0\n";
+    for (language, program) in [(C, "mixed-c"), (CPP, "mixed-cpp")] {
+        assert!(prints(language, "examples/mixed.c", program).is_none_or(|printed| printed == due));
+    }
+}
+
 /// An archive with another number, which its name has: that of before, say.
 #[test]
 fn another_archive_does_not_link() {
     let (other, program) = (scratch("libother.a"), scratch("records-other"));
     let mut rename = Command::new("objcopy");
-    rename.args(["--redefine-sym", "vigbuso_abi_6=vigbuso_abi_5", env!("VIGBUSO_ARCHIVE")]).arg(&other);
+    rename.args(["--redefine-sym", "vigbuso_abi_7=vigbuso_abi_6", env!("VIGBUSO_ARCHIVE")]).arg(&other);
     let Some(renamed) = run(&mut rename) else { return };
     assert!(renamed.status.success(), "{}", String::from_utf8_lossy(&renamed.stderr));
     for language in [C, CPP] {
         let Some(compiled) = compile(language, "examples/records.c", &other, &program) else { return };
         let said = String::from_utf8_lossy(&compiled.stderr);
-        assert!(!compiled.status.success() && said.contains("undefined reference to `vigbuso_abi_6'"), "{said}");
+        assert!(!compiled.status.success() && said.contains("undefined reference to `vigbuso_abi_7'"), "{said}");
     }
 }
 

@@ -2,7 +2,7 @@
 
 use std::collections::HashMap;
 
-use vigbuso::{Block, Class, Heap, Pool, Refusal, Rules};
+use vigbuso::{Block, Chunk, Class, Fate, Heap, Kind, Pool, Refusal, Rules, Trace};
 
 /// Frees a block that is not out: it is named, and nothing changes.
 #[track_caller]
@@ -13,6 +13,33 @@ fn refused(pool: &mut Pool, block: Block) {
     assert!([Refusal::NotOut, Refusal::WrongKind].contains(&error.refusal()), "{error}");
     assert_eq!(error.block(), block);
     assert_eq!(pool.report(), before);
+}
+
+/// Releases blocks that are not out in the heap's class, by list and by chunk: each is named, and no word of the book changes.
+#[track_caller]
+fn release_refused(pool: &mut Pool, class: Class, blocks: &[Block]) {
+    let before = pool.clone();
+    let heap = pool.heap_mut();
+    for &block in blocks {
+        let mut errors =
+            vec![heap.release(class, &[block]), heap.release_all(class, &mut [block]).map(|()| Fate::Kept)];
+        if class.kind() == Kind::Small {
+            errors.push(heap.release_chunks(class, &[block], &Chunk::of(&[block])).map(|fates| fates[0]));
+        }
+        for error in errors {
+            let error = error.expect_err("it is not out");
+            assert_eq!((error.refusal(), error.block()), (Refusal::NotOut, Some((0, block))));
+        }
+    }
+    assert_eq!(*pool, before);
+}
+
+/// No two blocks of a class share a byte.
+#[track_caller]
+fn disjoint(class: Class, blocks: impl IntoIterator<Item = Block>) {
+    let mut starts: Vec<u64> = blocks.into_iter().map(Block::byte_offset).collect();
+    starts.sort_unstable();
+    assert!(starts.windows(2).all(|pair| pair[0] + class.bytes() as u64 <= pair[1]), "{class}: {starts:?}");
 }
 
 #[track_caller]
@@ -152,23 +179,89 @@ fn blocks_of_another_class() {
     }
 }
 
-/// What a heap handed out counts as granted once its book is a pool's, each block once.
+/// What a heap handed out is the heap's once its book is a pool's: no free takes it back, and a release does, each block once.
 #[test]
 fn blocks_of_the_heap_before() {
     let mut heap = Heap::open(64).expect("64 pages");
     let class = Class::for_size(100).expect("a class");
     let before = heap.take(class).expect("an opened book");
     let mut pool = Pool::resume(heap.into_book()).expect("as the heap left it");
-    assert_eq!(pool.report().expect("an opened book").used, before.len());
+    assert_eq!(pool.report().expect("an opened book").used, 0);
     let block = alloc(&mut pool, 100);
     assert!(!before.contains(&block));
-    free_all(&mut pool, &before);
-    for &block in &before {
-        refused(&mut pool, block);
+    for &other in &before {
+        refused(&mut pool, other);
+    }
+    pool.heap_mut().release_all(class, &mut before.to_vec()).expect("they are out");
+    for &other in &before {
+        refused(&mut pool, other);
+    }
+    release_refused(&mut pool, class, &before);
+    pool.free(block).expect("it is out");
+}
+
+/// Were the release done, the take would get the granted block, and the next alloc might too.
+#[test]
+fn a_granted_block_that_is_released() {
+    for class in Class::all() {
+        let mut pool = Pool::from(Heap::open(64).expect("64 pages"));
+        let block = pool.alloc_in(class).expect("there is room");
+        assert!(class.kind() == Kind::Medium || block.granule() == 3);
+        let pools: Vec<Block> = pool.stock().chain([block]).collect();
+        release_refused(&mut pool, class, &pools);
+        let taken = pool.heap_mut().take(class).expect("an opened book");
+        let other = pool.alloc_in(class).expect("there is room");
+        disjoint(class, taken.iter().copied().chain([block, other]));
+        release_refused(&mut pool, class, &[block, other]);
+        pool.heap_mut().release_all(class, &mut taken.to_vec()).expect("they are out");
+        disjoint(class, pool.heap_mut().take(class).expect("an opened book").iter().copied().chain([block, other]));
+        free_all(&mut pool, &[block, other]);
     }
 }
 
-/// Right and wrong frees mixed, against a list of what is in use.
+/// Were the release done, the block would be in stock and on the page's free list: handed out twice.
+#[test]
+fn a_freed_block_that_is_released() {
+    for class in Class::all() {
+        let mut pool = Pool::from(Heap::open(64).expect("64 pages"));
+        let block = pool.alloc_in(class).expect("there is room");
+        pool.free(block).expect("it is out");
+        release_refused(&mut pool, class, &[block]);
+        let again = pool.alloc_in(class).expect("there is room");
+        let taken = pool.heap_mut().take(class).expect("an opened book");
+        disjoint(class, taken.iter().copied().chain([again]));
+        pool.free(again).expect("it is out");
+        pool.flush().expect("all that was freed was out");
+        release_refused(&mut pool, class, &[again]);
+    }
+}
+
+/// Were the free done, the pool would grant what the heap's take has handed out. A trace's takes are the heap's.
+#[test]
+fn a_taken_block_that_is_freed() {
+    for class in Class::all() {
+        let mut heap = Heap::open(64).expect("64 pages");
+        let taken = heap.take(class).expect("an opened book").to_vec();
+        let mut trace = Trace::new();
+        trace.take(class);
+        let traced = Heap::from_trace(64, &trace).expect("64 pages");
+        for (heap, taken) in [(heap, taken), (traced.heap, traced.blocks)] {
+            let mut pool = Pool::from(heap);
+            let before = pool.clone();
+            for &block in &taken {
+                refused(&mut pool, block);
+                assert_eq!(pool.free_in(class, block).expect_err("it is the heap's").refusal(), Refusal::NotOut);
+            }
+            assert_eq!(pool, before);
+            let granted = [pool.alloc_in(class), pool.alloc_in(class)].map(|block| block.expect("there is room"));
+            disjoint(class, taken.iter().copied().chain(granted));
+            pool.heap_mut().release_all(class, &mut taken.clone()).expect("they are out");
+            free_all(&mut pool, &granted);
+        }
+    }
+}
+
+/// Right and wrong frees mixed, beside the heap's takes and releases, against lists of what is in use.
 #[test]
 fn just_the_blocks_in_use_can_be_freed() {
     let mut random: u64 = 11;
@@ -178,13 +271,14 @@ fn just_the_blocks_in_use_can_be_freed() {
     };
     let mut pool = Pool::open(24).expect("24 pages");
     let (mut used, mut classes): (Vec<Block>, HashMap<Block, Class>) = Default::default();
+    let mut taken: Vec<(Class, Vec<Block>)> = Vec::new();
     let (mut seen, mut wrong, mut full) = (Vec::new(), 0, 0);
     for _ in 0..100_000 {
-        match below(8) {
+        let bytes = [16, 16, 32, 100, 1_000, 16_384, 20_000, 65_472][below(8)];
+        let class = Class::for_size(bytes).expect("a class");
+        match below(9) {
             0..=2 => {
-                let bytes = [16, 16, 32, 100, 1_000, 16_384, 20_000, 65_472][below(8)];
                 if let Ok(block) = pool.alloc(bytes) {
-                    let class = Class::for_size(bytes).expect("a class");
                     assert_eq!(classes.insert(block, class), None, "{block:?} was in use");
                     used.push(block);
                     seen.push(block);
@@ -194,19 +288,37 @@ fn just_the_blocks_in_use_can_be_freed() {
                 free_all(&mut pool, &used);
                 used.clear();
                 classes.clear();
+                for (class, mut blocks) in taken.drain(..) {
+                    pool.heap_mut().release_all(class, &mut blocks).expect("they are out");
+                }
             }
             3..=4 if !used.is_empty() => {
                 let block = used.swap_remove(below(used.len()));
                 pool.free(block).expect("it is in use");
                 classes.remove(&block);
             }
+            5 if taken.len() > 6 => {
+                let (class, mut blocks) = taken.swap_remove(below(taken.len()));
+                pool.heap_mut().release_all(class, &mut blocks).expect("they are out");
+                assert!(blocks.iter().all(|&block| pool.heap_mut().release(class, &[block]).is_err()));
+            }
+            5 => {
+                let blocks = pool.heap_mut().take(class).expect("an opened book").to_vec();
+                assert!(!blocks.iter().any(|block| classes.contains_key(block)), "it was in use");
+                seen.extend(&blocks);
+                taken.push((class, blocks));
+            }
             way if !seen.is_empty() => {
                 let stale = seen[below(seen.len())];
                 let granule = stale.granule() + [0, 0, 1, 64, 4_096][below(5)];
-                let kind = if way == 7 { [Block::small, Block::medium][below(2)] } else { Block::small };
-                let block = if way == 5 { stale } else { kind(granule).expect("62 bits") };
-                assert_eq!(pool.class_of(block), classes.get(&block).copied(), "{block:?}");
-                if !classes.contains_key(&block) {
+                let kind = if way == 8 { [Block::small, Block::medium][below(2)] } else { Block::small };
+                let block = if way == 6 { stale } else { kind(granule).expect("62 bits") };
+                let granted = classes.get(&block).copied();
+                assert_eq!(pool.class_of(block), granted, "{block:?}");
+                if let Some(class) = granted {
+                    let error = pool.heap_mut().release(class, &[block]).expect_err("it is the pool's");
+                    assert_eq!((error.refusal(), error.block()), (Refusal::NotOut, Some((0, block))));
+                } else {
                     refused(&mut pool, block);
                     wrong += 1;
                 }
@@ -233,7 +345,7 @@ fn damaged_books() {
         let mut book = pool.book().to_vec();
         for _ in 0..4 {
             // Among the first words of the arena, the classes' rows and the entries of the stocks, or in a page's record.
-            let word = [below(12), 160 + below(608), 9_216 + below(19_456), 40_000 + below(4_112)][below(4)];
+            let word = [below(13), 160 + below(1_216), 10_240 + below(19_456), 40_000 + below(4_112)][below(4)];
             book[word] = [0, 1, 255, 256, 4_096, u32::MAX][below(6)];
         }
         let Ok(mut damaged) = Pool::resume(book) else { continue };

@@ -177,8 +177,10 @@ fn a_pool_on_a_lent_book() {
     let class = pool.class_of(block).expect("the pool's");
     pool.into_heap().expect("an opened book");
     let mut heap = Heap::resume(&mut book[..]).expect("as the pool left it");
-    heap.release(class, &[block]).expect("it is out still");
-    assert!(heap.release(class, &[block]).is_err());
+    assert!(heap.release(class, &[block]).is_err(), "it is the pool's still");
+    let mut pool = Pool::from(heap);
+    pool.free(block).expect("it is out still");
+    assert!(pool.free(block).is_err());
 }
 
 /// A pool is all in its book: its clone, and one resumed on a copy of the book, go on as it does.
@@ -232,21 +234,82 @@ fn clones_of_given_books() {
     assert_ne!(pool, Pool::open(8).expect("eight pages"), "its words are others, though it answers the same");
 }
 
-/// A heap that goes on with a pool's book has what is in stock back: nothing is out but what was granted.
+/// A heap that goes on with a pool's book has what is in stock back. What was granted stays out and is the pool's, until a pool goes on.
 #[test]
 fn a_heap_on_a_pools_book() {
     let mut pool = Pool::open(8).expect("eight pages");
     let blocks = [16, 100, 20_000].map(|bytes| pool.alloc(bytes).expect("there is room"));
     let stock: Vec<Block> = pool.stock().collect();
     assert_eq!(stock.len(), pool.report().expect("an opened book").stocked);
-    let mut heap = Heap::resume(pool.book().to_vec()).expect("as the pool left it");
-    for block in stock {
-        let class = Class::all().find(|class| class.first_page(block).is_some()).expect("a class");
-        assert!(heap.release(class, &[block]).is_err(), "{block:?} was in stock");
+    let resumed = Heap::resume(pool.book().to_vec()).expect("as the pool left it");
+    for mut heap in [resumed, pool.clone().into_heap().expect("an opened book")] {
+        let before = heap.clone();
+        for block in blocks.iter().chain(&stock).copied() {
+            for class in Class::all().filter(|class| class.first_page(block).is_some()) {
+                let error = heap.release(class, &[block]).expect_err("it is the pool's");
+                assert_eq!((error.refusal(), error.block()), (Refusal::NotOut, Some((0, block))));
+            }
+        }
+        assert_eq!(heap, before);
+        assert_eq!(heap.report().map(|report| report.held), Ok(1 + 1 + 3));
+        let from = Pool::from(heap.clone());
+        for mut pool in [from, Pool::resume(heap.into_book()).expect("as the heap left it")] {
+            assert_eq!(pool.report().map(|report| (report.used, report.stocked)), Ok((3, 0)));
+            for block in blocks {
+                pool.free(block).expect("it is out still");
+            }
+            pool.flush().expect("all that was freed was out");
+            assert_eq!(pool.report().map(|report| (report.used, report.arena.held)), Ok((0, 0)));
+        }
     }
-    for block in blocks {
-        heap.release(pool.class_of(block).expect("granted"), &[block]).expect("it is out");
+}
+
+/// Whatever is done with the heap that is lent, the pool counts what it has granted there.
+#[test]
+fn a_heap_that_was_lent() {
+    let used = |pool: &Pool| {
+        let report = pool.report().expect("an opened book");
+        assert_eq!(pool.blocks().count(), report.used);
+        assert_eq!(pool.blocks().map(|(_, class)| class.bytes()).sum::<usize>(), report.used_bytes);
+        (report.used, report.stocked)
+    };
+    let mut pool = Pool::open(8).expect("eight pages");
+    let class = Class::for_size(100).expect("a class");
+    let blocks = [pool.alloc(100), pool.alloc(100), pool.alloc(20_000)].map(|block| block.expect("there is room"));
+    let taken = pool.heap_mut().take(class).expect("an opened book");
+    assert_eq!((taken.len(), used(&pool)), (64, (3, 62 + 8)));
+    // Another heap in its place.
+    let mut other = Heap::open(8).expect("eight pages");
+    std::mem::swap(pool.heap_mut(), &mut other);
+    assert_eq!(used(&pool), (0, 0));
+    assert!(blocks.iter().all(|&block| pool.free(block).is_err()));
+    let mut before = Pool::from(other);
+    assert_eq!(used(&before), (3, 62 + 8));
+    before.free(blocks[2]).expect("it is out");
+    assert_eq!(used(&before), (2, 62 + 9));
+    // Opened anew, and refused to be.
+    assert_eq!(before.heap_mut().reopen(9), Err(Refusal::BookTooShort));
+    assert_eq!(used(&before), (2, 62 + 9));
+    before.heap_mut().reopen(8).expect("the book is long enough");
+    assert_eq!(used(&before), (0, 0));
+    assert_eq!(before.alloc(100), Ok(blocks[0]));
+    assert_eq!(used(&before), (1, 63));
+}
+
+/// A take asks for no stock. Where it has none, a flush may help.
+#[test]
+fn a_take_beside_stocks() {
+    let mut pool = Pool::open(1).expect("a page");
+    let block = pool.alloc(16).expect("there is room");
+    pool.free(block).expect("it is out");
+    for bytes in [16, 32] {
+        let class = Class::for_size(bytes).expect("a class");
+        let mut take = || pool.heap_mut().take(class).expect("an opened book").len();
+        assert_eq!(take(), 0, "the page is the pool's");
     }
-    let pool = Pool::resume(heap.into_book()).expect("as the heap left it");
-    assert_eq!(pool.report().expect("an opened book").used, 0);
+    pool.flush().expect("all that was freed was out");
+    let class = Class::for_size(16).expect("a class");
+    let taken = pool.heap_mut().take(class).expect("an opened book");
+    assert_eq!(taken.len(), 64);
+    assert_eq!(pool.alloc_in(class), Err(AllocError::Full), "the page is the heap's");
 }

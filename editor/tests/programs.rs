@@ -1,8 +1,11 @@
-//! The examples `undo`, `typed`, `server` and `resume`, run as a user would, and their length.
+//! The examples `undo`, `typed`, `server`, `resume` and `mixed`, run as a user would, and their length.
 #![allow(clippy::cast_possible_truncation, clippy::cast_precision_loss, clippy::float_cmp)] // small whole numbers
 
-#[path = "../examples/resume.rs"]
+#[path = "../examples/mixed.rs"]
 #[allow(dead_code)] // its `main`
+mod mixed;
+#[path = "../examples/resume.rs"]
+#[allow(dead_code)]
 mod resume;
 #[path = "../examples/server.rs"]
 #[allow(dead_code)]
@@ -14,7 +17,7 @@ mod typed;
 #[allow(dead_code)]
 mod undo;
 
-use vigbuso::{Error, LoadError};
+use vigbuso::{Error, LoadError, Refusal};
 
 #[test]
 fn a_search_undoes_all() {
@@ -77,9 +80,41 @@ fn a_square_is_gone_on_with() {
     assert!(filled("bbbbb\naaaaa") && !filled("abcde"));
 }
 
+/// Answers of every length and states beside each other, some of them of one size; every answer stays as it was written.
+#[test]
+fn a_search_beside_its_answers() {
+    let mut jugs = mixed::Jugs::open(16).expect("16 pages");
+    let mut answers = Vec::new();
+    for (one, two, litres) in (1..12).flat_map(|one| (1..12).map(move |two| (one, two, (one + two) / 2))) {
+        let (block, len) = jugs.solve([one, two], litres).expect("there is room");
+        let text = String::from_utf8_lossy(&jugs.arena[block.range(len)]).into_owned();
+        let can = litres <= one.max(two)
+            && (1..=one).rev().find(|by| one % by == 0 && two % by == 0).is_some_and(|by| litres % by == 0);
+        assert_eq!(text.ends_with("never"), !can, "{one} and {two}: {text}");
+        answers.push((block, text));
+    }
+    assert!(jugs.states.is_empty());
+    for (block, text) in &answers {
+        assert_eq!(jugs.arena[block.range(text.len())], *text.as_bytes());
+    }
+    let report = jugs.pool.report().expect("an opened book");
+    assert_eq!(report.used, answers.len());
+    let short = answers.iter().find(|(block, _)| jugs.pool.class_of(*block) == Some(jugs.class)).expect("a short one");
+    let error = jugs.pool.heap_mut().release(jugs.class, &[short.0]).expect_err("it is the pool's");
+    assert_eq!(error.refusal(), Refusal::NotOut);
+    for (block, _) in answers {
+        jugs.pool.free(block).expect("it is out");
+    }
+    jugs.pool.release_run(jugs.seen).expect("it is held");
+    jugs.pool.flush().expect("an opened book");
+    assert_eq!(jugs.pool.report().map(|report| report.arena.held), Ok(0));
+}
+
 #[test]
 fn they_are_short() {
     let programs = [
+        include_str!("../examples/mixed.c"),
+        include_str!("../examples/mixed.rs"),
         include_str!("../examples/resume.rs"),
         include_str!("../examples/server.rs"),
         include_str!("../examples/typed.rs"),

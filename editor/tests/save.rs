@@ -36,6 +36,30 @@ fn a_heap_goes_on() {
     assert_eq!(again, heap, "its rules and its host word were saved too");
 }
 
+/// Blocks of the heap's takes, the pool's and pages by hand, all in one save.
+#[test]
+fn a_mixture_goes_on() {
+    let mut pool = Pool::open(64).expect("64 pages");
+    let class = Class::for_size(100).expect("a class");
+    let block = pool.alloc_in(class).expect("there is room");
+    let mut taken = pool.heap_mut().take(class).expect("an opened book");
+    let run = pool.commit(2).expect("a length").expect("there is room").run;
+    let mut again = Pool::load(&pool.save()).expect("as it was saved");
+    assert_eq!((&again, again.report()), (&pool, pool.report()));
+    assert!(again.free(taken[0]).is_err() && again.heap_mut().release(class, &[block]).is_err());
+    // Of the heap's own save the stocks go back.
+    let heap = Heap::load(&pool.heap().save()).expect("as it was saved");
+    let mut flushed = Pool::from(heap);
+    assert_eq!(flushed.report().map(|report| (report.used, report.stocked)), Ok((1, 0)));
+    for pool in [&mut again, &mut flushed] {
+        pool.free(block).expect("it is out");
+        pool.heap_mut().release_all(class, &mut taken).expect("they are out");
+        pool.release_run(run).expect("it is held");
+        pool.flush().expect("an opened book");
+        assert_eq!(pool.report().map(|report| (report.used, report.arena.held)), Ok((0, 0)));
+    }
+}
+
 /// All 500 blocks that were granted can be freed, and none of the others.
 #[test]
 fn a_pool_goes_on() {
@@ -103,9 +127,20 @@ fn saves_of_something_else() {
     for other in [&b"a text"[..], b"vigbus0\x1a and more", &[0; 1_000]] {
         assert_eq!(load(other), [Some(LoadError::NotASave); 3]);
     }
-    let mut newer = saves[0].clone();
-    newer[8..12].copy_from_slice(&2_u32.to_le_bytes());
-    assert_eq!(load(&newer), [Some(LoadError::Format(2)); 3]);
+}
+
+/// Of an older version, whose book had other places, or of a newer one: refused by name, whatever else is in it.
+#[test]
+fn saves_of_another_format() {
+    let mut save = Heap::open(8).expect("a length").save();
+    assert_eq!(save[8..12], 2_u32.to_le_bytes());
+    for format in [0, 1, 3, u32::MAX] {
+        save[8..12].copy_from_slice(&format.to_le_bytes());
+        assert_eq!(load(&save), [Some(LoadError::Format(format)); 3]);
+        assert_eq!(load(&save[..20]), [Some(LoadError::Format(format)); 3]);
+    }
+    let error = LoadError::Format(1).to_string();
+    assert_eq!(error, "the save has format 1, which this version does not read");
 }
 
 #[test]
@@ -176,7 +211,7 @@ fn forged_saves() {
     for _ in 0..turns {
         let mut forged = save.clone();
         for _ in 0..=below(3) {
-            forged[24 + below(words - 24)] = [0, 1, 2, 3, 16, 77, 127, 255][below(8)];
+            forged[24 + below(words - 24)] = [0, 1, 2, 3, 16, 77, 153, 255][below(8)];
         }
         seal(&mut forged);
         let Ok(mut region) = Region::load(&forged) else {

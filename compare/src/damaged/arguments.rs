@@ -7,22 +7,37 @@ use crate::oracle;
 use crate::planned::family;
 use crate::random::Random;
 use crate::words::{
-    block_word, chunk_word, page_of, Family, Word, CHUNK_PAGE_BITS, HOST_ALL, HOST_COMMIT, MAX_CHUNKS, MAX_PAGES,
-    PAGE_BYTES, PAGE_GRANULES, RUN_LIMIT, SMALL_CLASSES,
+    block_word, chunk_word, page_of, Family, Owner, Word, CHUNK_PAGE_BITS, HOST_ALL, HOST_COMMIT, MAX_CHUNKS,
+    MAX_PAGES, PAGE_BYTES, PAGE_GRANULES, RUN_LIMIT, SMALL_CLASSES,
 };
 
 /// Words and runs that are kept to make arguments of.
 const KEPT: usize = 600;
+
+/// A block with its class.
+#[derive(Clone, Copy)]
+struct Block {
+    owner: Owner,
+    family: Family,
+    class: u32,
+    word: Word,
+}
+
+impl Block {
+    fn is_of(&self, owner: Owner, family: Family, class: u32) -> bool {
+        (self.owner, self.family, self.class) == (owner, family, class)
+    }
+}
 
 /// What is known of the calls before.
 pub struct Known {
     pages: u32,
     kinds: &'static [Kind],
     classes: Vec<(Family, u32)>,
-    /// Blocks that were taken, with their class.
-    words: VecDeque<(Family, u32, Word)>,
-    /// Blocks of the pool that were given back.
-    gone: VecDeque<(Family, u32, Word)>,
+    /// Blocks that were handed out.
+    words: VecDeque<Block>,
+    /// Blocks that were given back.
+    gone: VecDeque<Block>,
     runs: VecDeque<(u64, u64)>,
 }
 
@@ -44,22 +59,25 @@ impl Known {
     pub fn note(&mut self, call: &Call, answer: &Answer) {
         match (call, answer) {
             (Call::Take { family, class, .. }, Answer::Taken { words, .. }) => {
-                self.words.extend(words.iter().map(|&word| (*family, *class, word)));
+                let block = |&word: &Word| Block { owner: Owner::Heap, family: *family, class: *class, word };
+                self.words.extend(words.iter().map(block));
             }
             (Call::Commit { pages, .. }, Answer::Run { first, .. }) => self.runs.push_back((u64::from(*first), *pages)),
             (Call::ReleaseBlocks { list, .. }, Answer::Fate(_))
             | (Call::ReleaseChunks { list, .. }, Answer::Fates(_)) => {
-                self.words.retain(|(_, _, word)| !list.contains(word));
+                let back = |block: &&Block| list.contains(&block.word);
+                self.gone.extend(self.words.iter().filter(back));
+                self.words.retain(|block| !back(&block));
             }
             (Call::Release { first, .. }, Answer::Released) => self.runs.retain(|run| run.0 != *first),
             (Call::Pool { request: PoolRequest::Alloc, class, .. }, Answer::Block(word)) if *word != 0 => {
                 let (family, class) = family(*class);
-                self.words.push_back((family, class, *word));
+                self.words.push_back(Block { owner: Owner::Pool, family, class, word: *word });
             }
             (Call::Pool { request: PoolRequest::Free(word), class, .. }, Answer::Freed) => {
                 let (family, class) = family(*class);
-                self.words.retain(|(_, _, other)| other != word);
-                self.gone.push_back((family, class, *word));
+                self.words.retain(|block| block.word != *word);
+                self.gone.push_back(Block { owner: Owner::Pool, family, class, word: *word });
             }
             _ => {}
         }
@@ -117,20 +135,22 @@ impl Known {
         }
     }
 
-    /// A block that was granted, mostly in this class; one that was given back since, or any word.
+    /// A block that was granted, mostly in this class; one that a take handed out, one that was given back since, or any word.
     fn block(&self, random: &mut Random, family: Family, class: u32) -> Word {
         let any = block_word(family, random.below(u64::from(self.pages) * PAGE_GRANULES));
-        let of_class = |list: &VecDeque<(Family, u32, Word)>| -> Vec<Word> {
-            list.iter().filter(|(of, number, _)| (*of, *number) == (family, class)).map(|&(_, _, word)| word).collect()
+        let of_class = |list: &VecDeque<Block>, owner: Owner| -> Vec<Word> {
+            list.iter().filter(|block| block.is_of(owner, family, class)).map(|block| block.word).collect()
         };
         let one = |random: &mut Random, words: &[Word]| if words.is_empty() { any } else { random.pick(words) };
         match random.below(16) {
             0 => random.word(),
             1 => any,
-            2 => one(random, &of_class(&self.words)) ^ (1 << random.below(64)),
-            3 | 4 => one(random, &of_class(&self.gone)),
-            5 => one(random, &self.words.iter().map(|&(_, _, word)| word).collect::<Vec<Word>>()),
-            _ => one(random, &of_class(&self.words)),
+            2 => one(random, &of_class(&self.words, Owner::Pool)) ^ (1 << random.below(64)),
+            3 => one(random, &of_class(&self.gone, Owner::Pool)),
+            4 => one(random, &of_class(&self.gone, Owner::Heap)),
+            5 => one(random, &self.words.iter().map(|block| block.word).collect::<Vec<Word>>()),
+            6 | 7 => one(random, &of_class(&self.words, Owner::Heap)),
+            _ => one(random, &of_class(&self.words, Owner::Pool)),
         }
     }
 
@@ -155,11 +175,12 @@ impl Known {
         }
     }
 
-    /// Blocks that were taken: of one page, or of any if they may be mixed; now and then with a wrong one among them.
+    /// Blocks that were taken: of one page, or of any if they may be mixed; now and then with a wrong one among them, or the pool's.
     fn blocks(&self, random: &mut Random, family: Family, class: u32, one_page: bool) -> Vec<Word> {
         let any = random.chance(1, 20);
-        let of_class = |&&(of, number, _): &&(Family, u32, Word)| any || (of == family && number == class);
-        let known: Vec<Word> = self.words.iter().filter(of_class).map(|&(_, _, word)| word).collect();
+        let owner = if random.chance(1, 12) { Owner::Pool } else { Owner::Heap };
+        let of_class = |block: &&Block| any || block.is_of(owner, family, class);
+        let known: Vec<Word> = self.words.iter().filter(of_class).map(|block| block.word).collect();
         let mut list = match known.is_empty() {
             true => Vec::new(),
             false => {
@@ -174,7 +195,8 @@ impl Known {
             }
         };
         for _ in 0..random.weighted(&[(10, 0), (1, 1), (1, 2)]) {
-            let wrong = match random.below(4) {
+            let wrong = match random.below(5) {
+                4 if !self.words.is_empty() => self.words[random.index(self.words.len())].word,
                 0 => random.word(),
                 1 => block_word(family, random.below(u64::from(self.pages) * PAGE_GRANULES)),
                 2 => list.first().copied().unwrap_or(0),

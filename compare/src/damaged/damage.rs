@@ -1,11 +1,11 @@
-//! Which words are overwritten, and with what. The layout is not used: the words that calls were seen to change are
-//! chosen more often than the others.
+//! Which words are overwritten, and with what. The layout is not used, but for the first words and FORMAT: the words that calls were
+//! seen to change are chosen more often than the others.
 
 use std::collections::HashSet;
 
 use super::book::Twins;
 use crate::random::Random;
-use crate::words::MAX_PAGES;
+use crate::words::{FORMAT, FORMAT_WORD, MAX_PAGES};
 
 #[derive(Default)]
 pub struct Damage {
@@ -19,7 +19,7 @@ pub struct Damage {
 impl Damage {
     /// After the opening, whose words count as seen: it writes the first ones, and further ones that are not 0.
     pub fn begin(&mut self, words: &[u32]) {
-        (0..160).chain((160..768).filter(|&at| words[at] != 0)).for_each(|at| self.saw(at));
+        (0..160).chain((160..1_376).filter(|&at| words[at] != 0)).for_each(|at| self.saw(at));
     }
 
     pub fn saw(&mut self, at: usize) {
@@ -68,6 +68,7 @@ impl Damage {
         let recent = self.seen.len().saturating_sub(60);
         let at = match random.below(10) {
             0 => random.index(len),
+            1 if random.chance(1, 4) => FORMAT_WORD,
             1 => random.index(16),
             2..=4 => self.seen[recent + random.index(self.seen.len() - recent)],
             5 => random.pick(&self.seen) + random.index(4),
@@ -76,9 +77,10 @@ impl Damage {
         at.min(len - 1)
     }
 
-    /// A limit of document 01, a neighbour of the old word, another word of the book, or anything.
+    /// A limit of document 01 or a number that the book has, a neighbour of the old word, another word of the book, or anything.
     fn content(&self, random: &mut Random, twins: &Twins, at: usize) -> u32 {
-        const LIMITS: [u32; 14] = [0, 1, 2, 3, 16, 64, 76, 128, 256, 4_093, 4_096, 65_536, MAX_PAGES, 1 << 31];
+        const LIMITS: [u32; 17] =
+            [0, 1, 2, 3, 16, 64, 76, 128, 152, 153, 256, 4_093, 4_096, 65_536, MAX_PAGES, FORMAT, 1 << 31];
         let old = twins.words()[at];
         match random.below(8) {
             0 => random.pick(&LIMITS),

@@ -16,12 +16,13 @@ use self::arguments::Known;
 use self::book::Twins;
 use self::damage::Damage;
 use crate::arguments::Arguments;
-use crate::call::{Answer, Call, Kind};
+use crate::call::{Answer, Call, Kind, Look};
 use crate::history;
 use crate::parking;
+use crate::planned::CLASSES;
 use crate::random::Random;
 use crate::tally::Tally;
-use crate::words::{book_words, HOST_ALL, MAX_PAGES};
+use crate::words::{book_words, FORMAT, FORMAT_WORD, HOST_ALL, MAX_PAGES};
 
 /// Calls of one history.
 const CALLS: u64 = 400;
@@ -85,8 +86,8 @@ fn work(calls: u64, seed: u64, kinds: &'static [Kind], only: Option<u64>) -> boo
     }
     println!("{tally}");
     println!(
-        "{} words overwritten; {} calls on damaged books, {} of them carried out",
-        counts.words, counts.calls, counts.done
+        "{} words overwritten; {} calls on damaged books, {} of them carried out; {} on books of another FORMAT, none of them",
+        counts.words, counts.calls, counts.done, counts.other_format
     );
     println!("0 faults");
     true
@@ -97,6 +98,7 @@ struct Counts {
     words: u64,
     calls: u64,
     done: u64,
+    other_format: u64,
 }
 
 struct History<'a> {
@@ -126,7 +128,15 @@ impl History<'_> {
                 println!("{}", history::line(&call, &Answer::Broken("?".into())));
                 let _ = std::io::stdout().flush();
             }
+            let formatted = self.twins.words()[FORMAT_WORD] == FORMAT;
             let answer = self.twins.ask(&call, &mut self.damage)?;
+            if !formatted && is_served(&call, &answer) {
+                return Err(format!(
+                    "a call on a book of another FORMAT is carried out: {}",
+                    history::line(&call, &answer)
+                ));
+            }
+            counts.other_format += u64::from(!formatted);
             if self.damage.is_done() {
                 counts.calls += 1;
                 counts.done += u64::from(!matches!(answer, Answer::Refused(_)));
@@ -179,5 +189,15 @@ impl History<'_> {
                 counts.words += self.damage.spoil(self.random, &mut self.twins);
             }
         }
+    }
+}
+
+/// Not refused; of a call that refuses nothing, another answer than no, none or no class.
+fn is_served(call: &Call, answer: &Answer) -> bool {
+    match (call, answer) {
+        (_, Answer::Refused(_) | Answer::Contains(false)) => false,
+        (Call::Look(Look::ClassOf(_)), Answer::Told(told)) => *told != CLASSES,
+        (Call::Look(_), Answer::Told(told)) => *told != 0,
+        _ => true,
     }
 }

@@ -133,12 +133,13 @@ fn closure(list: &str, name: &str) -> Vec<(String, Vec<String>)> {
     lines.into_iter().filter(|(name, _)| needed.contains(name)).collect()
 }
 
-/// Crate, module and names of the definitions that are shut unless they are named.
+/// Crate, module and names of the definitions that are shut unless they are named. Those in folders of the specs are the code's, and no
+/// answer of the model needs them.
 fn unfoldable(root: &Path, crates: &[&str]) -> io::Result<Vec<(String, String, Vec<String>)>> {
     let mut found = Vec::new();
     for name in crates {
         let folder = root.join("crates").join(name).join("specs");
-        let mut files: Vec<PathBuf> = entries(&folder)?;
+        let mut files: Vec<PathBuf> = entries(&folder)?.into_iter().filter(|path| path.is_file()).collect();
         files.sort();
         for file in files {
             let text = fs::read_to_string(&file)?;

@@ -18,7 +18,7 @@ mod original {
 use std::sync::atomic::{AtomicBool, Ordering};
 
 use crate::words::{
-    block_word, chunk_count, chunk_page, granule_of, Family, Word, GRANULE_BYTES, PAGE_BYTES, SMALL_BATCH,
+    block_word, chunk_count, chunk_page, granule_of, Family, Owner, Word, GRANULE_BYTES, PAGE_BYTES, SMALL_BATCH,
 };
 use original::{arena, classes, heap, page};
 use rules::Rules;
@@ -68,12 +68,36 @@ const TOUCHED_LIMIT: usize = 8_192;
 
 static IN_USE: AtomicBool = AtomicBool::new(false);
 
-/// A heap of the original with its own arena. The arena is a static of the original, so there is one at a time.
+/// Every class of one owner.
+struct Heaps {
+    small: Box<heap::GlobalHeap>,
+    medium: Box<heap::MediumHeap>,
+}
+
+impl Heaps {
+    fn new() -> Heaps {
+        Heaps { small: Box::new(heap::GlobalHeap::new()), medium: Box::new(heap::MediumHeap::new()) }
+    }
+
+    /// As new ones, where they are.
+    fn clear(&mut self) {
+        *self.small = heap::GlobalHeap::new();
+        *self.medium = heap::MediumHeap::new();
+    }
+
+    fn parked_pages(&self) -> usize {
+        self.small.parked_pages() + self.medium.parked_pages()
+    }
+}
+
+/// The original's heaps twice over one arena: for the classes of the heap, and for the pool's. The arena is a static of the original,
+/// so there is one at a time.
 pub struct Original {
     pages: u32,
     touched: usize,
-    small: Box<heap::GlobalHeap>,
-    medium: Box<heap::MediumHeap>,
+    own: Heaps,
+    /// Made when the pool asks first.
+    pool: Option<Heaps>,
 }
 
 /// Blocks of one page or span, linked from head to tail.
@@ -98,20 +122,23 @@ impl Original {
         rules::set(rules);
         limits::set(rows);
         arena::rebuild(pages as usize);
-        Original {
-            pages,
-            touched: 0,
-            small: Box::new(heap::GlobalHeap::new()),
-            medium: Box::new(heap::MediumHeap::new()),
-        }
+        Original { pages, touched: 0, own: Heaps::new(), pool: None }
     }
 
     /// The heap and its arena as `open` leaves them, with so many pages.
     pub fn reopen(&mut self, pages: u32) {
         self.pages = pages;
         arena::rebuild(pages as usize);
-        *self.small = heap::GlobalHeap::new();
-        *self.medium = heap::MediumHeap::new();
+        self.own.clear();
+        self.pool = None;
+    }
+
+    #[inline]
+    fn heaps(&mut self, owner: Owner) -> &Heaps {
+        match owner {
+            Owner::Heap => &self.own,
+            Owner::Pool => self.pool.get_or_insert_with(Heaps::new),
+        }
     }
 
     /// Calls of which only the time is asked: no fate is kept.
@@ -120,21 +147,22 @@ impl Original {
     }
 
     /// The words of the blocks, latest popped first, and virgin.
-    pub fn take_blocks(&mut self, family: Family, class: u32, host: u32) -> (Vec<Word>, bool) {
-        let (chain, count, virgin) = self.take_chain(family, class, host);
+    pub fn take_blocks(&mut self, owner: Owner, family: Family, class: u32, host: u32) -> (Vec<Word>, bool) {
+        let (chain, count, virgin) = self.take_chain(owner, family, class, host);
         self.touched = self.touched.max(self.frontier() as usize);
         (words_of_chain(family, chain, count), virgin)
     }
 
     /// The original's own answer: the first block, which links the others, their number, and virgin.
     #[inline]
-    pub fn take_chain(&mut self, family: Family, class: u32, host: u32) -> (*mut u8, u32, bool) {
+    pub fn take_chain(&mut self, owner: Owner, family: Family, class: u32, host: u32) -> (*mut u8, u32, bool) {
         host::set(host);
+        let heaps = self.heaps(owner);
         // SAFETY: the class is the family's; every page of the heap lies in the region.
         unsafe {
             match family {
-                Family::Small => asked::take(&self.small, class),
-                Family::Medium => asked::take_medium(&self.medium, class),
+                Family::Small => asked::take(&heaps.small, class),
+                Family::Medium => asked::take_medium(&heaps.medium, class),
             }
         }
     }
@@ -144,9 +172,9 @@ impl Original {
         page_number(run_address(family, word))
     }
 
-    /// The fate of the page or span that the blocks, all out of it, go back to.
-    pub fn release_blocks(&mut self, family: Family, class: u32, host: u32, list: &[Word]) -> u32 {
-        self.release_chain(family, class, host, &chain(family, list));
+    /// The fate of the page or span of the owner's that the blocks, all out of it, go back to.
+    pub fn release_blocks(&mut self, owner: Owner, family: Family, class: u32, host: u32, list: &[Word]) -> u32 {
+        self.release_chain(owner, family, class, host, &chain(family, list));
         let fates = fates::take();
         assert!(fates.len() == 1, "one release has one fate, not {fates:?}");
         fates[0]
@@ -154,13 +182,14 @@ impl Original {
 
     /// The blocks of a chain, all out of its run, go back.
     #[inline]
-    pub fn release_chain(&mut self, family: Family, class: u32, host: u32, chain: &Chain) {
+    pub fn release_chain(&mut self, owner: Owner, family: Family, class: u32, host: u32, chain: &Chain) {
         host::set(host);
+        let heaps = self.heaps(owner);
         // SAFETY: the blocks are out of this one run and are linked from head to tail.
         unsafe {
             match family {
-                Family::Small => asked::release(&self.small, chain),
-                Family::Medium => asked::release_medium(&self.medium, class, chain),
+                Family::Small => asked::release(&heaps.small, chain),
+                Family::Medium => asked::release_medium(&heaps.medium, class, chain),
             }
         }
     }
@@ -180,7 +209,7 @@ impl Original {
     pub fn release_chunks(&mut self, class: u32, host: u32, made: &mut Chunks) {
         host::set(host);
         // SAFETY: the blocks are out of this class, and the chunks name each of their pages once with its blocks' number.
-        unsafe { asked::release_chunks(&self.small, class, made) };
+        unsafe { asked::release_chunks(&self.own.small, class, made) };
     }
 
     /// First page and fresh, or none.
@@ -228,9 +257,9 @@ impl Original {
         arena::stored_holes().1 as u32
     }
 
-    /// Pages in the empty and cold stores of every class, by the original's own counts.
+    /// Pages in the empty and cold stores of every class, the heap's and the pool's, by the original's own counts.
     pub fn parked_pages(&self) -> u64 {
-        (self.small.parked_pages() + self.medium.parked_pages()) as u64
+        (self.own.parked_pages() + self.pool.as_ref().map_or(0, Heaps::parked_pages)) as u64
     }
 
     /// Hole pages, those at or above the frontier, and the parked ones (document 02, A.5).

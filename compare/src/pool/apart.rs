@@ -1,66 +1,82 @@
-//! That no two granted blocks share a byte, and none shares one with a page held by hand: told from calls and answers alone.
+//! That no byte is two owners': the entries of takes and the grants that were not given back, and the pages held by hand, share none.
+//! Told from calls and answers alone.
 
 use std::collections::BTreeMap;
 
 use crate::call::{Answer, Call, PoolRequest};
-use crate::ledger::Ledger;
+use crate::ledger::class_id;
 use crate::oracle;
 use crate::planned::family;
 use crate::words::{granule_of, Word, GRANULE_BYTES, PAGE_BYTES};
 
-/// The bytes of each granted block: its first one, and the one after its last.
-#[derive(Default)]
-pub struct Apart(BTreeMap<u64, u64>);
+/// What somebody has, each entry and each page by itself: its first byte, and the one after its last.
+pub struct Apart {
+    /// Bytes of the arena.
+    end: u64,
+    had: BTreeMap<u64, u64>,
+}
 
 impl Apart {
-    /// Takes in a call that was carried out; the ledger has it already. Says what shares a byte.
-    pub fn note(&mut self, call: &Call, answer: &Answer, ledger: &Ledger) -> Result<(), String> {
+    pub fn new(pages: u32) -> Apart {
+        Apart { end: u64::from(pages) * PAGE_BYTES as u64, had: BTreeMap::new() }
+    }
+
+    /// Takes in a call that was carried out. Says what shares a byte, or is given back and nobody's.
+    pub fn note(&mut self, call: &Call, answer: &Answer) -> Result<(), String> {
         match (call, answer) {
+            (Call::Take { family, class, .. }, Answer::Taken { words, .. }) => {
+                let number = class_id(*family, *class) as u32;
+                words.iter().try_for_each(|&word| self.hand_out(number, word))
+            }
+            (Call::ReleaseBlocks { list, .. }, Answer::Fate(_))
+            | (Call::ReleaseChunks { list, .. }, Answer::Fates(_)) => {
+                list.iter().try_for_each(|&word| self.take_back(first_byte(word)))
+            }
             (Call::Pool { request: PoolRequest::Alloc, class, .. }, Answer::Block(word)) if *word != 0 => {
-                self.grant(*class, *word, ledger)
+                self.hand_out(*class, *word)
             }
-            (Call::Pool { request: PoolRequest::Free(word), .. }, Answer::Freed) => {
-                match self.0.remove(&first_byte(*word)) {
-                    Some(_) => Ok(()),
-                    None => Err(format!("block {word} was freed and is not granted")),
-                }
-            }
+            (Call::Pool { request: PoolRequest::Free(word), .. }, Answer::Freed) => self.take_back(first_byte(*word)),
             (Call::Commit { pages, .. }, Answer::Run { first, .. }) => self.hold(u64::from(*first), *pages),
             (Call::Grow { first, old, new, .. }, Answer::Grown(true)) => self.hold(first + old, new - old),
+            (Call::Release { first, pages, .. }, Answer::Released) => {
+                (*first..first + pages).try_for_each(|page| self.take_back(page * PAGE_BYTES as u64))
+            }
             _ => Ok(()),
         }
     }
 
-    fn grant(&mut self, class: u32, word: Word, ledger: &Ledger) -> Result<(), String> {
-        let (family, number) = family(class);
+    fn hand_out(&mut self, number: u32, word: Word) -> Result<(), String> {
+        let (family, class) = family(number);
         let first = first_byte(word);
-        let end = first + oracle::block_bytes(family, number) as u64;
-        if let Some(other) = self.within(first, end) {
-            return Err(format!("block {word} of class {class} shares a byte with the granted one at byte {other}"));
-        }
-        let page = |byte: u64| (byte / PAGE_BYTES as u64) as u32;
-        let held = ledger.direct().range(..=page(end - 1)).next_back().filter(|(at, pages)| *at + *pages > page(first));
-        if let Some((at, pages)) = held {
-            return Err(format!("block {word} of class {class} shares a byte with the {pages} pages held at {at}"));
-        }
-        if end > u64::from(ledger.pages()) * PAGE_BYTES as u64 {
-            return Err(format!("block {word} of class {class} ends beyond the arena"));
-        }
-        self.0.insert(first, end);
-        Ok(())
+        let end = first + oracle::block_bytes(family, class) as u64;
+        self.put(first, end).map_err(|what| format!("block {word} of class {number} {what}"))
     }
 
-    fn hold(&self, first: u64, pages: u64) -> Result<(), String> {
-        let bytes = PAGE_BYTES as u64;
-        match self.within(first * bytes, (first + pages) * bytes) {
-            Some(block) => Err(format!("the {pages} pages at {first} have the granted block at byte {block}")),
-            None => Ok(()),
+    fn hold(&mut self, first: u64, pages: u64) -> Result<(), String> {
+        (first..first + pages).try_for_each(|page| {
+            let byte = page * PAGE_BYTES as u64;
+            self.put(byte, byte + PAGE_BYTES as u64).map_err(|what| format!("page {page}, held by hand, {what}"))
+        })
+    }
+
+    fn put(&mut self, first: u64, end: u64) -> Result<(), String> {
+        if end > self.end {
+            return Err("ends beyond the arena".into());
+        }
+        match self.had.range(..end).next_back().filter(|(_, &last)| last > first) {
+            Some((other, _)) => Err(format!("shares a byte with what somebody has at byte {other}")),
+            None => {
+                self.had.insert(first, end);
+                Ok(())
+            }
         }
     }
 
-    /// A granted block that has one of these bytes.
-    fn within(&self, first: u64, end: u64) -> Option<u64> {
-        self.0.range(..end).next_back().filter(|(_, &last)| last > first).map(|(&block, _)| block)
+    fn take_back(&mut self, first: u64) -> Result<(), String> {
+        match self.had.remove(&first) {
+            Some(_) => Ok(()),
+            None => Err(format!("what was given back at byte {first} was nobody's")),
+        }
     }
 }
 

@@ -1,25 +1,26 @@
-//! The pool's calls (docs/CALLS.md, "The pool") on the port, against a plain pool over the original's takes and releases (`stocks.rs`,
-//! `reference.rs`). The original has no pool.
+//! The pool's calls (docs/CALLS.md, "The pool") on the port, alone or mixed with all others (`mixed.rs`), against a plain pool over the
+//! original's takes and releases (`stocks.rs`, `reference.rs`). The original has no pool: its heaps stand twice over one arena, once for
+//! the heap's classes and once for the pool's.
 //!
 //! Each call is made on two equal books, but one that is due to be refused on the first alone: so what it leaves is compared, word by
 //! word, with what stood there.
 
 mod apart;
+pub mod crossed;
 mod events;
+pub mod mixed;
 mod scenarios;
 pub mod wrong;
 
 use std::ops::Range;
 
 pub use self::apart::Apart;
-pub use self::scenarios::{plan, SCENARIOS};
+pub use self::scenarios::{plan, Scenario, SCENARIOS};
 use crate::arguments::Arguments;
-use crate::call::{Answer, Call, Look, PoolRequest};
+use crate::call::{Answer, Call};
 use crate::history::{self, History};
-use crate::ledger::{class_id, Ledger};
 use crate::memory::{Fence, Reserved};
-use crate::plan::{Intent, Plan};
-use crate::planned::{family, CLASSES};
+use crate::plan::Plan;
 use crate::port::{self, Room};
 use crate::progress::Progress;
 use crate::random::Random;
@@ -27,20 +28,22 @@ use crate::reference::Reference;
 use crate::run::Difference;
 use crate::shrink::shrink;
 use crate::tally::Tally;
-use crate::words::{book_words, page_of, MAX_PAGES};
+use crate::words::{book_words, MAX_PAGES};
 
-pub fn run(words: &[String]) -> Result<bool, String> {
+/// Random histories of one of the scenarios, each compared call by call.
+pub fn run(words: &[String], scenarios: &[Scenario]) -> Result<bool, String> {
     let arguments = Arguments::read(words, &["calls", "seed", "scenario"])?;
     let calls: u64 = arguments.number("calls")?.unwrap_or(1_000_000);
     let scenario = arguments.text("scenario");
-    if scenario.is_some_and(|name| SCENARIOS.iter().all(|known| known.name != name)) {
-        return Err(format!("the scenarios are: {}", SCENARIOS.map(|known| known.name).join(", ")));
+    if scenario.is_some_and(|name| scenarios.iter().all(|known| known.name != name)) {
+        let names: Vec<&str> = scenarios.iter().map(|known| known.name).collect();
+        return Err(format!("the scenarios are: {}", names.join(", ")));
     }
     let mut random = Random::new(arguments.number("seed")?.unwrap_or(1));
     let (mut books, mut tally, mut progress) = (Books::new(), Tally::default(), Progress::begin());
     let (mut ruled, mut refused) = (0, 0);
     while tally.calls() < calls {
-        let plan = plan(&mut random, scenario);
+        let plan = plan(&mut random, scenarios, scenario);
         tally.begin(plan.scenario);
         let before = tally.calls();
         let found = compare(&plan, &mut books, |call, answer, reference, happened| {
@@ -70,7 +73,8 @@ struct Books {
     room: Room,
 }
 
-/// Pages whose words are compared and overwritten, at the end of a long arena.
+/// The longest arena all of whose words are compared and overwritten, and the pages at the end of a longer one that are.
+const WHOLE: u32 = 1_024;
 const LOOKED_AT: u32 = 512;
 
 impl Books {
@@ -101,7 +105,7 @@ impl Books {
 /// All words of a short book, those of a long one that are no page's, and its last pages': histories on a long arena keep to these.
 fn looked_at(pages: u32) -> [Range<usize>; 2] {
     // Who holds a page stands in the record of the first of 256.
-    let first = pages.saturating_sub(LOOKED_AT) / 256 * 256;
+    let first = if pages <= WHOLE { 0 } else { (pages - LOOKED_AT) / 256 * 256 };
     [0..book_words(1.min(first)), book_words(first)..book_words(pages)]
 }
 
@@ -126,13 +130,9 @@ fn compare(
     for book in [&mut *one, &mut *other] {
         assert_eq!(port::open_with(book, u64::from(plan.pages), &plan.rows), 0, "{} pages open", plan.pages);
     }
-    let mut apart = Apart::default();
+    let mut apart = Apart::new(plan.pages);
     for (step, wanted) in plan.steps.iter().enumerate() {
         let Some(call) = wanted.call(&reference.ledger, reference.frontier()) else { continue };
-        if above_frontier(&call, &reference) || beside_the_pool(plan, &call, &reference.ledger) {
-            continue;
-        }
-        let fault = events::fault(&reference.ledger, &call);
         let due = reference.answer(&call);
         let got = port::ask(one, room, &call);
         let checked = match &due {
@@ -141,14 +141,18 @@ fn compare(
                 let what = |what| Answer::Broken(format!("refused as {number}, and {what}"));
                 same(one, other, plan.pages).map_err(what)
             }
-            _ => again(other, room, &call, &due)
-                .and_then(|()| apart.note(&call, &due, &reference.ledger))
-                .map_err(Answer::Broken),
+            _ => again(other, room, &call, &due).and_then(|()| apart.note(&call, &due)).map_err(Answer::Broken),
         };
         if let Err(got) = checked {
             return Some(Difference { step, call, due, got });
         }
-        let happened = [fault, events::happened(&call, &due, &reference), events::found(&call, &due)];
+        // A refused call leaves the ledger as it was.
+        let fault = match due {
+            Answer::Refused(number) => events::fault(&reference.ledger, &call, number),
+            _ => None,
+        };
+        let happened =
+            [fault, events::happened(&call, &due, &reference), events::found(&call, &due, &reference.ledger)];
         seen(&call, &due, &reference, happened);
     }
     let end = same(one, other, plan.pages).map_err(|what| format!("equal calls leave different books: {what}"));
@@ -159,36 +163,6 @@ fn compare(
         got: Answer::Broken(what),
     };
     end.err().map(last)
-}
-
-/// Whose a page at or above the frontier is stands in a word that no opening writes: `class_of` answers by what it holds.
-fn above_frontier(call: &Call, reference: &Reference) -> bool {
-    let above = |word| (u64::from(reference.frontier())..u64::from(reference.ledger.pages())).contains(&page_of(word));
-    matches!(call, Call::Look(Look::ClassOf(block)) if above(*block))
-}
-
-/// A class is the pool's, or the heap's own calls take and release its blocks: what would be carried out on the other's is no call of
-/// a pool's history.
-fn beside_the_pool(plan: &Plan, call: &Call, ledger: &Ledger) -> bool {
-    let of_pool = |class: usize| {
-        let class = class as u32;
-        plan.steps.iter().any(|step| step.intent == Intent::Alloc { class })
-    };
-    let other = match call {
-        Call::Take { family, class, .. } | Call::ReleaseBlocks { family, class, .. } => {
-            *class < family.classes() && of_pool(class_id(*family, *class))
-        }
-        Call::ReleaseChunks { class, .. } => of_pool(*class as usize),
-        Call::Pool { request: PoolRequest::Free(word), class, .. }
-        | Call::Look(Look::Granted { class, block: word })
-            if *class < CLASSES =>
-        {
-            let (family, number) = family(*class);
-            return !of_pool(*class as usize) && ledger.is_out(family, number, *word);
-        }
-        _ => false,
-    };
-    other && ledger.refusal(call).is_none()
 }
 
 /// The same call on the other book answers the same.

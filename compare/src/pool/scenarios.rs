@@ -1,4 +1,4 @@
-//! Random plans of the pool's calls, with the direct ones between them.
+//! Random plans of the pool's calls, with direct ones and the heap's own between them.
 
 use crate::generate::{Maker, OLD_PAGES};
 use crate::parking;
@@ -10,11 +10,12 @@ use crate::words::{HOST_ALL, HOST_COMMIT};
 
 pub struct Scenario {
     pub name: &'static str,
-    weight: u64,
-    make: fn(&mut Maker),
+    pub weight: u64,
+    pub make: fn(&mut Maker),
 }
 
-const PASSING_PAGES: &str = "passing pages";
+/// Most of these have nothing parked.
+pub const PASSING_PAGES: &str = "passing pages";
 
 pub const SCENARIOS: [Scenario; 6] = [
     Scenario { name: "mixed", weight: 300, make: mixed },
@@ -28,8 +29,8 @@ pub const SCENARIOS: [Scenario; 6] = [
 /// One row for all classes: nothing is parked, so that a page whose blocks are back is another class's soon.
 const NOTHING_PARKED: [u32; 4] = [0, CLASSES - 1, 0, 0];
 
-pub fn plan(random: &mut Random, name: Option<&str>) -> Plan {
-    let fitting: Vec<(u64, &Scenario)> = SCENARIOS
+pub fn plan(random: &mut Random, scenarios: &[Scenario], name: Option<&str>) -> Plan {
+    let fitting: Vec<(u64, &Scenario)> = scenarios
         .iter()
         .filter(|scenario| name.is_none_or(|name| name == scenario.name))
         .map(|scenario| (scenario.weight, scenario))
@@ -47,11 +48,11 @@ pub fn plan(random: &mut Random, name: Option<&str>) -> Plan {
     maker.plan(scenario.name, rows)
 }
 
-fn which(maker: &mut Maker) -> Which {
+pub fn which(maker: &mut Maker) -> Which {
     maker.random.weighted(&[(2, Which::Latest), (2, Which::Oldest), (3, Which::Any)])
 }
 
-fn any_class(maker: &mut Maker) -> u32 {
+pub fn any_class(maker: &mut Maker) -> u32 {
     match maker.random.below(6) {
         0 => maker.random.between(64, 75) as u32,
         1 => maker.random.between(40, 45) as u32,
@@ -63,7 +64,7 @@ fn any_class(maker: &mut Maker) -> u32 {
 }
 
 /// So many allocs, frees, trims, or wrong calls of a class; long enough a row now and then that a stock is emptied or full.
-fn pool_steps(maker: &mut Maker, class: u32) {
+pub fn pool_steps(maker: &mut Maker, class: u32) {
     let most = stock_most(class) as u64;
     let number = match maker.random.below(12) {
         0 => most + maker.random.between(0, 12),
@@ -98,9 +99,9 @@ fn pool_steps(maker: &mut Maker, class: u32) {
     }
 }
 
-/// Steps on a few classes with direct calls between them; in a quarter of the plans the heap's own calls on another class too.
+/// Steps on a few classes with direct calls between them; in a quarter of the plans the heap's own calls on some class too.
 fn steps(maker: &mut Maker, classes: &[u32], number: u64) {
-    let heap = maker.random.chance(1, 4).then(|| any_class(maker)).filter(|class| !classes.contains(class));
+    let heap = maker.random.chance(1, 4).then(|| any_class(maker));
     for _ in 0..number {
         match maker.random.below(16) {
             0 | 14 => maker.direct_step(),
@@ -128,7 +129,7 @@ fn steps(maker: &mut Maker, classes: &[u32], number: u64) {
     }
 }
 
-fn classes(maker: &mut Maker, most: u64) -> Vec<u32> {
+pub fn classes(maker: &mut Maker, most: u64) -> Vec<u32> {
     (0..maker.random.between(1, most)).map(|_| any_class(maker)).collect()
 }
 

@@ -1,5 +1,6 @@
 //! Calls of the pool that are likely to be refused: wrong frees of every kind, host words and classes that there are not.
 
+use super::crossed;
 use crate::call::{Call, PoolRequest};
 use crate::ledger::Ledger;
 use crate::oracle;
@@ -20,7 +21,7 @@ pub fn call(random: &mut Random, ledger: &Ledger, class: u32, host: u32) -> Call
     let class = match random.below(12) {
         0 => CLASSES + random.below(4) as u32,
         1 => random.word() as u32,
-        // The heap's own calls may be on any class but the pool's.
+        // Few classes are asked for blocks, so that the arena is not spent on one of each.
         2 if request == PoolRequest::Free(word) => random.below(u64::from(CLASSES)) as u32,
         _ => class,
     };
@@ -50,7 +51,7 @@ fn block(random: &mut Random, ledger: &Ledger, class: u32) -> Word {
     let known = granted(random, ledger, class);
     let stock = stocks.stock(class);
     let end = u64::from(ledger.pages()) * PAGE_GRANULES;
-    match random.below(18) {
+    match random.below(20) {
         // In stock: the one that came last, or any, freed or never granted.
         0 | 1 if !stock.is_empty() => stock[stock.len() - 1].word,
         2..=4 if !stock.is_empty() => random.pick(stock).word,
@@ -79,6 +80,7 @@ fn block(random: &mut Random, ledger: &Ledger, class: u32) -> Word {
         15 => block_word(family, page_of(known) * PAGE_GRANULES + random.below(5)),
         16 => known ^ 1 << random.below(64),
         17 => random.word(),
+        18 | 19 => crossed::entry(random, ledger, class).unwrap_or(known),
         _ => block_word(family, random.below(end)),
     }
 }

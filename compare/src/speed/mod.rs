@@ -7,6 +7,7 @@
 mod counter;
 mod fill;
 mod meter;
+mod opening;
 mod rounds;
 mod scenarios;
 mod sides;
@@ -32,6 +33,9 @@ use crate::words::MAX_PAGES;
 /// Valgrind has less address space to give than the longest arena and its book take.
 const LONGEST_COUNTED: u32 = 262_144;
 
+/// Rounds of openings that are timed.
+const OPENING_ROUNDS: usize = 2_000;
+
 pub fn time(words: &[String]) -> Result<bool, String> {
     let arguments = Arguments::read(words, &["file", "seconds"])?;
     let seconds: f64 = arguments.number("seconds")?.unwrap_or(1.0);
@@ -49,7 +53,7 @@ pub fn time(words: &[String]) -> Result<bool, String> {
         println!("a trace: other blocks or figures than its calls one by one");
         return Ok(false);
     };
-    told(&(times.markdown() + &traced), &arguments)
+    told(&(times.markdown() + &opening::line(&clock, "ns", OPENING_ROUNDS) + &traced), &arguments)
 }
 
 pub fn count(words: &[String]) -> Result<bool, String> {
@@ -62,7 +66,7 @@ pub fn count(words: &[String]) -> Result<bool, String> {
         counts.add(scenario, rounds::on_both(scenario, original, port, &counter, 0)?);
         Ok(())
     });
-    Ok(same && told(&counts.markdown(), &arguments)?)
+    Ok(same && told(&(counts.markdown() + &opening::line(&counter, "instructions", 1)), &arguments)?)
 }
 
 /// Whether both sides answer the same in every scenario with an arena of up to so many pages.

@@ -9,7 +9,7 @@ use crate::oracle::rules::Rules;
 use crate::oracle::{self, Chain, Chunks, Original};
 use crate::port;
 use crate::sizes::original;
-use crate::words::{book_words, Family, Word, HOST_COMMIT, HOST_RESERVE, MAX_CHUNKS, NO_PAGE, SMALL_BATCH};
+use crate::words::{book_words, Family, Owner, Word, HOST_COMMIT, HOST_RESERVE, MAX_CHUNKS, NO_PAGE, SMALL_BATCH};
 
 pub const HOST: u32 = HOST_RESERVE | HOST_COMMIT;
 
@@ -88,7 +88,7 @@ impl Side for OriginalSide {
 
     #[inline]
     fn take(&mut self, Class(family, class): Class, taken: &mut Self::Taken) {
-        let (chain, count, _) = self.0.take_chain(family, class, HOST);
+        let (chain, count, _) = self.0.take_chain(Owner::Heap, family, class, HOST);
         *taken = Some((chain, count));
     }
 
@@ -102,7 +102,7 @@ impl Side for OriginalSide {
 
     #[inline]
     fn release(&mut self, Class(family, class): Class, list: &Chain) {
-        self.0.release_chain(family, class, HOST, list);
+        self.0.release_chain(Owner::Heap, family, class, HOST, list);
     }
 
     #[inline]

@@ -2,8 +2,10 @@
 use Rattle.facts.proofs.Prelude.{ℕ, zero, suc, _+_, _≤_, _<_, arith, Bool, true, false, _&&_, List, [], _∷_, _≡_, refl, ap}
 use Rattle.facts.proofs.Prelude.{_∙_, eqb, ltb, leb, length, lt-ltb, ne-eqb, leb-true, by-cases, and-left, and-right, and-no}
 use Rattle.words.specs.Limits.{holeSlots}
-use Rattle.fields.specs.Field.{Field, arena, mark, class, hole, page, out, slot, ArenaField, state, frontier, holes, holePages, commits, commitsHigh, reuses, reusesHigh, abandoned, abandonedHigh, start, pages, owner, arenaOff, pageOff, put, words, HoleField, held, holeOff, get}
+use Rattle.fields.specs.Field.{Field, arena, mark, class, hole, page, out, slot, ArenaField, state, frontier, holes, holePages, commits, commitsHigh, reuses, reusesHigh, abandoned, abandonedHigh, start, pages, owner, arenaOff, pageOff, put, words, HoleField, held, format, holeOff, get}
+use Rattle.fields.specs.Ranges.{headValid}
 use Rattle.fields.proofs.Laws.{put-put-same, put-comm, length-put, get-put-same, get-put-other}
+use Rattle.fields.proofs.Sound.{head-kept}
 use Rattle.fields.proofs.Changes.{Changes, changes-none, changes-put}
 use Rattle.model.specs.declared.Hole.{Hole}
 use Rattle.model.specs.Arena.{Arena}
@@ -88,11 +90,11 @@ module _ (n : ℕ) where
 module _ (n : ℕ) (b b′ : List ℕ) (k : (f : ArenaField) → get b′ (arena f) ≡ get b (arena f)) where
   record-kept : recordValid n b′ ≡ recordValid n b
   unfolding recordValid
-  record-kept = rw (k state, k frontier, k holes, k holePages, k held)
+  record-kept = rw (k state, head-kept b b′ (k format) n (k frontier), k holes, k holePages, k held)
 
   few-holes : recordValid n b ≡ true → get b (arena holes) ≤ holeSlots
   unfolding recordValid
-  few-holes e = leb-true _ holeSlots (and-left _ _ (and-right (leb (get b (arena frontier)) n) _ (and-right (leb (get b (arena state)) 2) _ e)))
+  few-holes e = leb-true _ holeSlots (and-left _ _ (and-right (headValid n b) _ (and-right (leb (get b (arena state)) 2) _ e)))
 
   pub give-kept : ((f : HoleField) (j : ℕ) → ltb j holeSlots ≡ true → get b′ (hole f j) ≡ get b (hole f j)) → (m : ℕ) → giveValid n b′ m ≡ giveValid n b m
   unfolding giveValid holesEndValid

@@ -8,6 +8,7 @@ use mathlib.Core.Bool.{Bool, true, false, cond, not, _&&_}
 use lib.Dec.{eqb, leb}
 use Rattle.facts.specs.Lists.{every, below}
 use Rattle.fields.specs.Field.{arena, class, page, owner, frontier, held, emptyCount, coldCount, get, put}
+use Rattle.fields.specs.Ranges.{formatValid}
 use Rattle.model.specs.declared.Figures.{Figures}
 use Rattle.model.specs.Heap.{badRun, badGrowth, direct, parkedPages, figuresWith}
 use Rattle.words.specs.Host.{reservationGranted, commitGranted}
@@ -120,7 +121,7 @@ releaseCall n b q m =
     (record { code = 0; book = given b q m; yes = true })))
 
 unfoldable pub containsCall : ℕ → List ℕ → ℕ → ℕ → Bool
-containsCall n b o k = Model.contains n o k (loadArena b)
+containsCall n b o k = formatValid b && Model.contains n o k (loadArena b)
 
 -- a report's figures
 abbrev pub parkedRuns : List ℕ → ℕ → ℕ

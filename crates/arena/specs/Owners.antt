@@ -5,10 +5,10 @@ use mathlib.Core.Option.{Option, none, some}
 use Rattle.fields.specs.Field.{page, owner, put}
 use Rattle.model.specs.Heap.{Holder, nobody, direct, class}
 
--- OWNER: 0 nobody, 1 + the class's id, 77 the direct calls
+-- OWNER: 0 nobody, 1 + the class's id, 153 the direct calls
 abbrev pub ownerCode : Holder → ℕ
 ownerCode nobody = 0
-ownerCode direct = 77
+ownerCode direct = 153
 ownerCode (class c) = suc c
 
 -- the m pages from q on get an owner, the first one first

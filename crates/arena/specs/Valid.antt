@@ -7,7 +7,7 @@ use lib.Dec.{leb}
 use Rattle.facts.specs.Lists.{every, below}
 use Rattle.words.specs.Limits.{classRows}
 use Rattle.fields.specs.Field.{arena, class, state, frontier, holes, holePages, held, emptyCount, coldCount, get}
-use Rattle.fields.specs.Ranges.{maxParked}
+use Rattle.fields.specs.Ranges.{maxParked, headValid}
 use Rattle.model.specs.declared.Hole.{Hole}
 use Rattle.words.specs.Host.{commitGranted}
 use Rattle.model.specs.HoleStore.{holeSlots, holePagesMax}
@@ -18,7 +18,7 @@ use Rattle.arena.specs.Load.{loadHoles, loadArena}
 unfoldable pub recordValid : ℕ → List ℕ → Bool
 recordValid n b =
     leb (get b (arena state)) 2
-    && (leb (get b (arena frontier)) n
+    && (headValid n b
     && (leb (get b (arena holes)) holeSlots
     && (leb (get b (arena holePages)) holePagesMax
     && leb (get b (arena held)) n)))

@@ -3,13 +3,14 @@
 use Prim.Native.Nat.{ℕ, _+_, _*_}
 use mathlib.Core.Bool.{Bool, true, cond, not, _&&_, _||_}
 use mathlib.Core.List.{List, [], _∷_, _++_, map}
-use lib.Dec.{eqb, ltb, leb}
+use lib.Dec.{eqb, ltb}
 use lib.ListN.{length, drop}
 use Rattle.facts.specs.Lists.{isNil, filter, every, elem, distinct}
 use Rattle.words.specs.Word.{chunkKind, countOf, pageOf}
 use Rattle.classes.specs.declared.Shape.{Shape}
 use Rattle.rules.specs.declared.Limits.{Limits}
-use Rattle.fields.specs.Field.{arena, class, page, frontier, free, carved, get}
+use Rattle.fields.specs.Field.{class, page, free, carved, get}
+use Rattle.fields.specs.Ranges.{headValid}
 use Rattle.model.specs.Destination.{destinationOf, isEmpty, isCold, isArena, arenaFate, retired}
 use Rattle.model.specs.Release.{ofKind}
 use Rattle.model.specs.Chunks.{chunksMax}
@@ -51,7 +52,7 @@ pagesGiven b c sh gs = runsGiven b sh (limitsAt b c) gs (get b (class (stored Em
 
 unfoldable pub chunksValid : ℕ → List ℕ → ℕ → Shape → List ℕ → Bool
 chunksValid n b c sh gs =
-    leb (get b (arena frontier)) n
+    headValid n b
     && (every (λ g. pageValid b sh (countOf g) (pageOf g)) gs
     && (rowValid b c
     && cond (eqb (pagesGiven b c sh gs) 0) true (giveValid n b (pagesGiven b c sh gs))))

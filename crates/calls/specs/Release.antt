@@ -12,6 +12,7 @@ use Rattle.facts.specs.Lists.{isNil, every}
 use Rattle.words.specs.Host.{discardZeroed}
 use Rattle.classes.specs.declared.Shape.{Shape}
 use Rattle.fields.specs.Field.{arena, class, page, frontier, partial, free, carved, listed, get, put}
+use Rattle.fields.specs.Ranges.{headValid}
 use Rattle.model.specs.declared.Destination.{Destination}
 use Rattle.model.specs.declared.Destination.the-variants.{ToEmpty, ToCold, ToArena}
 use Rattle.model.specs.Page.{isMedium}
@@ -101,7 +102,7 @@ destinationValid n b c sh m q = cond (eqb (get b (page free q) + m) (get b (page
 
 unfoldable pub releaseValid : ℕ → List ℕ → ℕ → Shape → ℕ → ℕ → Bool
 releaseValid n b c sh m q =
-    leb (get b (arena frontier)) n && (pageValid b sh m q && (rowValid b c && destinationValid n b c sh m q))
+    headValid n b && (pageValid b sh m q && (rowValid b c && destinationValid n b c sh m q))
 
 abbrev pub firstOf : List ℕ → ℕ
 firstOf [] = 0

@@ -14,6 +14,7 @@ use lib.ListN.{length, drop}
 use Rattle.facts.specs.Lists.{every}
 use Rattle.classes.specs.declared.Shape.{Shape}
 use Rattle.fields.specs.Field.{arena, class, page, frontier, partial, empty, cold, next, prev, free, carved, listed, virgin, get}
+use Rattle.fields.specs.Ranges.{headValid}
 use Rattle.model.specs.Page.{wordOf}
 use Rattle.arena.specs.Calls.{commitFor}
 use Rattle.pages.specs.Runs.{whole}
@@ -112,7 +113,7 @@ takeNew n b c sh h l =
 -- the first source that has a page
 unfoldable pub takeBlocks : ℕ → List ℕ → ℕ → Shape → ℕ → List ℕ → Took
 takeBlocks n b c sh h l =
-    cond (ltb n (get b (arena frontier))) (tookNone b l 13)
+    cond (not (headValid n b)) (tookNone b l 13)
     (cond (not (eqb (get b (class partial c)) 0)) (fromPartial n b c sh l)
     (cond (not (eqb (get b (class empty c)) 0)) (fromPark n b c sh Empty l)
     (cond (not (eqb (get b (class cold c)) 0)) (fromPark n b c sh Cold l)

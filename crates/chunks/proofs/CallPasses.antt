@@ -1,13 +1,15 @@
 -- The passes of a group release, once its listed blocks are taken.
 --     valid-pre, settle-pre                  what each pass asks follows from the tests before it
 --     mismatch, invalid, taken               numbers 11 and 13, and the taking
-use Rattle.facts.proofs.Prelude.{ℕ, _+_, _≤_, _<_, arith, Bool, true, false, cond, _&&_, _||_, List, [], _∷_, _++_, _≡_, refl, sym, ap, _∙_, eqb, ltb, leb}
-use Rattle.facts.proofs.Prelude.{length, drop, length-append, lt-ltb, leb-true, le-leb, eq-eqb, every, All, and-left, and-right, eqb-turned, every-same}
+use Rattle.facts.proofs.Prelude.{ℕ, _+_, _≤_, _<_, arith, Bool, true, false, cond, _&&_, _||_, List, [], _∷_, _++_, _≡_, refl, sym, ap, _∙_, eqb, ltb}
+use Rattle.facts.proofs.Prelude.{length, drop, length-append, lt-ltb, le-leb, eq-eqb, every, All, and-left, and-right, eqb-turned, every-same}
 use Rattle.words.specs.Limits.{classRows}
 use Rattle.words.specs.Word.{countOf, pageOf}
 use Rattle.classes.specs.declared.Shape.{Shape}
 use Rattle.fields.specs.Field.{Field, arena, class, page, slot, out, region, off, frontier, partial, empty, emptyCount, cold, coldCount, next, prev, free, carved, listed, get, put, words, hole, ok, emptyLimit, coldLimit}
 use Rattle.fields.proofs.Changes.{Changes, changes-none, changes-put}
+use Rattle.fields.specs.Ranges.{headValid}
+use Rattle.fields.proofs.Sound.{head-frontier}
 use Rattle.arena.specs.Valid.{giveValid}
 use Rattle.pages.specs.Stack.{indexOf, isBlock, pageAt}
 use Rattle.calls.specs.Out.{inRunOf, outAt}
@@ -61,11 +63,11 @@ module _ (n : ℕ) (b : List ℕ) (c : ℕ) (sh : Shape) (ws gs : List ℕ) (a :
     module _ (f : chunksValid n b c sh gs ≡ true) (fs : List ℕ) (enough : length gs ≤ length fs) (h : ℕ) where
       valid-low : get b (arena frontier) ≤ n
       unfolding chunksValid
-      valid-low = leb-true (get b (arena frontier)) n (and-left (leb (get b (arena frontier)) n) _ f)
+      valid-low = head-frontier n b (and-left (headValid n b) _ f)
 
       valid-rest : (every (λ g. pageValid b sh (countOf g) (pageOf g)) gs && (rowValid b c && cond (eqb (pagesGiven b c sh gs) 0) true (giveValid n b (pagesGiven b c sh gs)))) ≡ true
       unfolding chunksValid
-      valid-rest = and-right (leb (get b (arena frontier)) n) _ f
+      valid-rest = and-right (headValid n b) _ f
 
       pages : every (λ g. pageValid b sh (countOf g) (pageOf g)) gs ≡ true
       pages = valid-pages n b c sh gs f

@@ -8,7 +8,7 @@ use Rattle.facts.proofs.Prelude.{ltb, leb, length, lt-ltb, le-ltb, le-leb, ne-e
 use Rattle.words.specs.Limits.{classRows}
 use Rattle.words.specs.Word.{chunkKind}
 use Rattle.classes.specs.declared.Shape.{Shape}
-use Rattle.classes.specs.Shape.{smallShape, shapeOf}
+use Rattle.classes.specs.Shape.{smallShape, shapeOf, classCount}
 use Rattle.classes.specs.way.Sound.{Sound}
 use Rattle.classes.proofs.Shapes.{shape-sound}
 use Rattle.fields.specs.Field.{words}
@@ -199,5 +199,5 @@ module _ (n : ℕ) (b : List ℕ) (c : ℕ) (sh : Shape) (h : ℕ) where
 pub small-pre : (n : ℕ) (b : List ℕ) (c : ℕ) → c < 64 → n ≤ maxPages → words n ≤ length b → CallPre n b c (shapeOf c)
 unfolding shapeOf smallShape
 small-pre n b c l few long =
-    let e : shapeOf c .pages ≡ 1 = rw (lt-ltb c 64 l) in
+    let e : shapeOf c .pages ≡ 1 = rw (lt-ltb c classCount (omega arith), lt-ltb c 64 l) in
     record { class = record { known = omega arith; sound = shape-sound c; few = few; long = long }; single = e }

@@ -9,7 +9,7 @@ use Rattle.facts.proofs.Prelude.{ltb, leb, length, ltb-true, lt-ltb, leb-true, 
 use Rattle.words.specs.Limits.{classRows}
 use Rattle.words.specs.Word.{countOf, pageOf}
 use Rattle.classes.specs.declared.Shape.{Shape}
-use Rattle.fields.specs.Field.{arena, class, hole, page, frontier, partial, empty, emptyCount, cold, coldCount, next, prev, free, carved, listed, virgin, get, words, emptyLimit, coldLimit}
+use Rattle.fields.specs.Field.{arena, class, hole, page, format, frontier, partial, empty, emptyCount, cold, coldCount, next, prev, free, carved, listed, virgin, get, words, emptyLimit, coldLimit}
 use Rattle.rules.specs.declared.Limits.{Limits}
 use Rattle.fields.proofs.Changes.{Changes}
 use Rattle.arena.specs.Valid.{giveValid}
@@ -22,7 +22,8 @@ use Rattle.calls.specs.Release.{pageValid, rowValid}
 use Rattle.calls.specs.Chunks.{blocksOn, chunkFits, chunksMatch, returnsAll, runsGiven, pagesGiven, chunksValid}
 use Rattle.release.proofs.Bits.{isBit, start-kept}
 use Rattle.release.proofs.ValidSteps.{page-room, page-carved}
-use Rattle.fields.specs.Ranges.{maxPages}
+use Rattle.fields.specs.Ranges.{maxPages, headValid}
+use Rattle.fields.proofs.Sound.{head-kept}
 use Rattle.pages.proofs.Descending.{every-mono}
 use Rattle.model.specs.Chunks.{chunksMax}
 use Rattle.chunks.specs.way.Match.{wordsOn, pageFits, hasPage, pagesMatch, inArena, MatchPre}
@@ -95,12 +96,12 @@ module _ (b b′ : List ℕ) (h : Changes isBit b b′) where
     pub chunks-valid-kept : (n : ℕ) (sh : Shape) (gs : List ℕ) → chunksValid n b′ c sh gs ≡ chunksValid n b c sh gs
     unfolding chunksValid
     chunks-valid-kept n sh gs =
-        rw (h .kept (arena frontier) refl refl, every-same (λ g. pageValid b′ sh (countOf g) (pageOf g)) (λ g. pageValid b sh (countOf g) (pageOf g)) gs (λ g. page-kept sh (countOf g) (pageOf g)), row-kept, given-kept sh gs, valid-kept n _)
+        rw (head-kept b b′ (h .kept (arena format) refl refl) n (h .kept (arena frontier) refl refl), every-same (λ g. pageValid b′ sh (countOf g) (pageOf g)) (λ g. pageValid b sh (countOf g) (pageOf g)) gs (λ g. page-kept sh (countOf g) (pageOf g)), row-kept, given-kept sh gs, valid-kept n _)
 
 -- ---- the pages' part of number 13
 pub valid-pages : (n : ℕ) (b : List ℕ) (c : ℕ) (sh : Shape) (gs : List ℕ) → chunksValid n b c sh gs ≡ true → every (λ g. pageValid b sh (countOf g) (pageOf g)) gs ≡ true
 unfolding chunksValid
-valid-pages n b c sh gs f = and-left (every (λ g. pageValid b sh (countOf g) (pageOf g)) gs) _ (and-right (leb (get b (arena frontier)) n) _ f)
+valid-pages n b c sh gs f = and-left (every (λ g. pageValid b sh (countOf g) (pageOf g)) gs) _ (and-right (headValid n b) _ f)
 
 -- ---- where the listed words are, in a class whose runs are one page
 module _ (n : ℕ) (b : List ℕ) (c : ℕ) (sh : Shape) (one : sh .pages ≡ 1) where

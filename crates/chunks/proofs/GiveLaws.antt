@@ -8,9 +8,11 @@ use mir.Val.{Fits}
 use mir.Syntax.{w32}
 use Rattle.words.specs.Word.{pageOf}
 use Rattle.classes.specs.declared.Shape.{Shape}
-use Rattle.fields.specs.Field.{Field, arena, hole, state, frontier, holes, holePages, held, words, get, same, ok}
+use Rattle.fields.specs.Field.{Field, arena, hole, format, state, frontier, holes, holePages, held, words, get, same, ok}
 use Rattle.fields.proofs.Laws.{get-put-same, get-put-other, length-put}
 use Rattle.fields.proofs.Changes.{Changes, changes-none}
+use Rattle.fields.specs.Ranges.{headValid, formatValid}
+use Rattle.fields.proofs.Sound.{head-format, head-made, format-kept}
 use Rattle.model.specs.HoleStore.{endsAt, startsAt, insert, accepts}
 use Rattle.model.specs.Arena.{Arena, give}
 use Rattle.model.proofs.Placing.{finds}
@@ -84,10 +86,14 @@ module _ (m q : ℕ) (a : Arena) where
 
 -- ---- the test
 module _ (n : ℕ) (b : List ℕ) where
-  valid-again : ValidRecord n b → recordValid n b ≡ true
+  format-told : recordValid n b ≡ true → formatValid b ≡ true
   unfolding recordValid
-  valid-again k =
-      rw (le-leb _ 2 (k .state), le-leb _ n (k .frontier), le-leb _ 4096 (k .holes), le-leb _ 65536 (k .holePages), le-leb _ n (k .held))
+  format-told e = head-format n b (and-left (headValid n b) _ (and-right (leb (get b (arena state)) 2) _ e))
+
+  valid-again : formatValid b ≡ true → ValidRecord n b → recordValid n b ≡ true
+  unfolding recordValid
+  valid-again f k =
+      rw (le-leb _ 2 (k .state), head-made n b f (k .frontier), le-leb _ 4096 (k .holes), le-leb _ 65536 (k .holePages), le-leb _ n (k .held))
 
   module _ (x : ℕ) where
     pub valid-told : giveValid n b x ≡ true → recordValid n b ≡ true
@@ -156,6 +162,12 @@ module _ (n : ℕ) (b : List ℕ) (q m : ℕ) (long : words n ≤ length b) (val
   unfolding middle after loadArena
   given-frontier = kept (arena frontier) refl refl refl ∙ stored-frontier n b hb after few ∙ give-frontier m q (loadArena b)
 
+  given-format : formatValid (given b q m) ≡ true
+  unfolding middle
+  given-format =
+      rw (format-kept b (given b q m) (kept (arena format) refl refl refl ∙ arena-changes b after few .kept (arena format) refl refl))
+      (format-told n b valid)
+
   given-count : get (given b q m) (arena holes) ≡ length (after .store .holes)
   unfolding middle
   given-count = kept (arena holes) refl refl refl ∙ stored-holes n b hb after few
@@ -185,7 +197,7 @@ module _ (n : ℕ) (b : List ℕ) (q m : ℕ) (long : words n ≤ length b) (val
     given-ends = rw (given-frontier, given-count, given-holes) after-ends
 
     pub given-valid : (x : ℕ) → m + x ≤ get b (arena held) → giveValid n (given b q m) x ≡ true
-    given-valid x l = valid-less n (given b q m) x (valid-again n (given b q m) given-record) given-ends (rw given-held (omega arith))
+    given-valid x l = valid-less n (given b q m) x (valid-again n (given b q m) given-format given-record) given-ends (rw given-held (omega arith))
 
 -- ---- runs one after another
 pub gives-append : (b : List ℕ) (m : ℕ) (xs ys : List ℕ) → giveRuns b m (xs ++ ys) ≡ giveRuns (giveRuns b m xs) m ys

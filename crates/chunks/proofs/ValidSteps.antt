@@ -1,13 +1,13 @@
 -- Number 13's tests of a group release: the loops over the chunks, and the ways out.
-use Rattle.facts.proofs.Prelude.{ℕ, suc, _+_, _-_, _*_, _^_, _≤_, _<_, arith, add-zero, mul-le-mul, add-one, Bool, true, false, and-false, List, [], _∷_, _≡_, refl, sym, _∙_}
-use Rattle.facts.proofs.Prelude.{eqb, ltb, length, getD, drop, drop-cons, ltb-true, le-leb, lt-leb, eq-eqb, ne-eqb, eqb-true, eqb-false, every, by-cases, drop-past, every-get}
+use Rattle.facts.proofs.Prelude.{ℕ, suc, _+_, _-_, _*_, _^_, _≤_, _<_, arith, add-zero, mul-le-mul, add-one, Bool, true, false, and-false, List, [], _∷_, _≡_, refl, sym, _∙_, not, not-true, not-false}
+use Rattle.facts.proofs.Prelude.{eqb, ltb, length, getD, drop, drop-cons, ltb-true, eq-eqb, ne-eqb, eqb-true, eqb-false, every, by-cases, drop-past, every-get}
 use mir.Val.{Fits}
 use mir.Syntax.{w32}
 use Rattle.words.specs.Word.{countOf, pageOf}
 use Rattle.classes.specs.declared.Shape.{Shape}
 use Rattle.rules.specs.declared.Limits.{Limits}
-use Rattle.fields.specs.Field.{arena, class, page, frontier, emptyCount, coldCount, free, carved, get}
-use Rattle.fields.specs.Ranges.{maxParked}
+use Rattle.fields.specs.Field.{class, page, emptyCount, coldCount, free, carved, get}
+use Rattle.fields.specs.Ranges.{maxParked, headValid}
 use Rattle.arena.specs.Valid.{giveValid}
 use Rattle.pages.specs.declared.Park.the-variants.{Empty, Cold}
 use Rattle.words.specs.Host.{digit}
@@ -209,10 +209,10 @@ module _ (n : ℕ) (b : List ℕ) (c : ℕ) (sh : Shape) (gs : List ℕ) (x y : 
     some-given z t g = rw given-is (rw (ne-eqb (r * sh .pages) 0 z) g)
 
 -- ---- all tests
-module _ (n : ℕ) (b : List ℕ) (c : ℕ) (sh : Shape) (gs : List ℕ) (f : ℕ) (e : f ≡ get b (arena frontier)) where
-  pub above-arena : n < f → false ≡ chunksValid n b c sh gs
+module _ (n : ℕ) (b : List ℕ) (c : ℕ) (sh : Shape) (gs : List ℕ) (f : Bool) (e : f ≡ headValid n b) where
+  pub wrong-head : not f ≡ true → false ≡ chunksValid n b c sh gs
   unfolding chunksValid
-  above-arena h = rw (← e, lt-leb f n h)
+  wrong-head h = rw (← e, not-true f h)
 
   module _ (p : Bool) (j : p ≡ every (chunkValid b sh) gs) where
     pub no-page : p ≡ false → false ≡ chunksValid n b c sh gs
@@ -224,9 +224,9 @@ module _ (n : ℕ) (b : List ℕ) (c : ℕ) (sh : Shape) (gs : List ℕ) (f : �
       unfolding chunksValid
       no-row l = rw (← k, l) (simp and-false)
 
-      pub gives-last : (t : Bool) → f ≤ n → r ≡ true → t ≡ givesValid n b (pagesGiven b c sh gs) → t ≡ chunksValid n b c sh gs
+      pub gives-last : (t : Bool) → not f ≡ false → r ≡ true → t ≡ givesValid n b (pagesGiven b c sh gs) → t ≡ chunksValid n b c sh gs
       unfolding chunksValid givesValid
-      gives-last t i l g = rw (← e, le-leb f n i, ← j, h, ← k, l) g
+      gives-last t i l g = rw (← e, not-false f i, ← j, h, ← k, l) g
 
 pub gives-pre : (n : ℕ) (b : List ℕ) (c : ℕ) (sh : Shape) (gs : List ℕ) → ChunksValidPre n b c sh gs → (p r : Bool) → p ≡ every (chunkValid b sh) gs → p ≡ true → r ≡ rowValid b c → r ≡ true → PagesGivenPre n b c sh gs
 gives-pre n b c sh gs a p r j h k l = record { all = a; pages = sym j ∙ h; row = sym k ∙ l }

@@ -126,7 +126,7 @@ pub fn chunks_valid(meta: &[u32], n: u32, c: u32, shape: Shape, chunks: &[u64]) 
     requires { ⌜ ChunksValidPre n (now meta) c shape (now chunks) ⌝ }
     ensures { λ r. ⌜ r ≡ chunksValid n (now (meta .entry)) c shape (now (chunks .entry)) ⌝ }
 {
-    if fields::arena::frontier(meta) > n {
+    if !fields::fault::head_valid(meta, n) {
         return false;
     }
     if pages_valid(meta, n, shape, chunks) {

@@ -1,11 +1,11 @@
 -- Every class's shape is sound: one computed test over each of the two size tables.
 use Rattle.facts.proofs.Prelude.{ℕ, _+_, _-_, _*_, _/_, _^_, _≤_, _<_, arith, div-le-self, Bool, true, false, cond, _&&_}
-use Rattle.facts.proofs.Prelude.{_≡_, refl, leb, ltb, eqb, getD, leb-true, eqb-true, lt-ltb, le-ltb, and-left, and-right}
+use Rattle.facts.proofs.Prelude.{_≡_, refl, sym, _∙_, ap, leb, ltb, eqb, getD, leb-true, eqb-true, lt-ltb, le-ltb, and-left, and-right}
 use mir.Val.{Fits}
 use mir.Syntax.{w64}
 use Rattle.classes.specs.declared.Shape.{Shape}
 use Rattle.classes.specs.Sizes.{smallSizes, mediumSizes, pageBytes, smallCapacity, spanPages, spanCapacity}
-use Rattle.classes.specs.Shape.{inverse, smallOf, mediumOf, smallShape, mediumShape, shapeOf}
+use Rattle.classes.specs.Shape.{inverse, smallOf, mediumOf, smallShape, mediumShape, classCount, poolId, numberOf, namedShape, shapeOf}
 use Rattle.classes.specs.way.Near.{blockBytes}
 use Rattle.classes.specs.way.Sound.{Sound}
 use Rattle.classes.proofs.Table.{every-at}
@@ -46,7 +46,7 @@ medium-sound c = every-at (λ size. sound (mediumShape size)) mediumSizes 65472 
 
 pub shape-sound : (c : ℕ) → Sound (shapeOf c)
 unfolding shapeOf
-shape-sound c = is-sound (shapeOf c) (true-cond sound (ltb c 64) _ _ (small-sound c) (medium-sound (c - 64)))
+shape-sound c = let k = numberOf c in is-sound (shapeOf c) (true-cond sound (ltb k 64) _ _ (small-sound k) (medium-sound (k - 64)))
 
 -- ---- a shape made from a block size
 abbrev filled : ℕ → Bool
@@ -79,13 +79,39 @@ module _ (c size : ℕ) (e : size ≡ blockBytes c) where
   pub most-bytes : size ≤ pageBytes
   most-bytes = rw e (most _ (filled-bytes c))
 
-  pub small-shaped : (k i : ℕ) → c < 64 → k ≡ smallCapacity size → i ≡ inverse (size / 16) → smallOf (size / 16) k i ≡ shapeOf c
-  unfolding shapeOf smallShape blockBytes
+  pub small-shaped : (k i : ℕ) → c < 64 → k ≡ smallCapacity size → i ≡ inverse (size / 16) → smallOf (size / 16) k i ≡ namedShape c
+  unfolding smallShape blockBytes
   small-shaped k i h ek ei = rw (ek, ei, e, lt-ltb c 64 h)
 
-  pub medium-shaped : (g k i : ℕ) → 64 ≤ c → g ≡ spanPages size → k ≡ spanCapacity size → i ≡ inverse (size / 16) → mediumOf (size / 16) g k i ≡ shapeOf c
-  unfolding shapeOf mediumShape blockBytes
+  pub medium-shaped : (g k i : ℕ) → 64 ≤ c → g ≡ spanPages size → k ≡ spanCapacity size → i ≡ inverse (size / 16) → mediumOf (size / 16) g k i ≡ namedShape c
+  unfolding mediumShape blockBytes
   medium-shaped g k i h eg ek ei = rw (eg, ek, ei, e, le-ltb c 64 h)
+
+-- ---- the number of an id
+pub number-low : (c : ℕ) → c < classCount → c ≡ numberOf c
+number-low c h = rw (lt-ltb c classCount h)
+
+pub number-high : (c : ℕ) → classCount ≤ c → c - classCount ≡ numberOf c
+number-high c h = rw (le-ltb c classCount h)
+
+pub shape-numbered : (c k : ℕ) (s : Shape) → k ≡ numberOf c → s ≡ namedShape k → s ≡ shapeOf c
+unfolding shapeOf
+shape-numbered c k s e f = f ∙ ap namedShape e
+
+pub number-pool : (k : ℕ) → numberOf (poolId k) ≡ k
+number-pool k = rw (le-ltb (poolId k) classCount (omega arith)) (omega arith)
+
+-- a class of the pool has the shape of its number
+pub shape-pool : (k : ℕ) → shapeOf (poolId k) ≡ namedShape k
+unfolding shapeOf
+shape-pool k = ap namedShape (number-pool k)
+
+pub shape-named : (k : ℕ) → ltb k classCount ≡ true → shapeOf k ≡ namedShape k
+unfolding shapeOf
+shape-named k low = rw low
+
+pub shape-alike : (k : ℕ) → ltb k classCount ≡ true → shapeOf (poolId k) ≡ shapeOf k
+shape-alike k low = shape-pool k ∙ sym (shape-named k low)
 
 -- the inverse, as the code makes it
 module _ (d : ℕ) where

@@ -1,4 +1,5 @@
--- The shape of each class: 0 to 63 small, 64 to 75 medium.
+-- The shape of each class. A caller names a class by its number, 0 to 63 small and 64 to 75 medium. The heap's classes have their numbers as ids, the pool's
+-- have 76 more: two classes of one number are alike in shape and limits, and share no page.
 use Prim.Native.Nat.{ℕ, _+_, _-_, _/_, _^_}
 use mathlib.Core.Bool.{cond}
 use lib.Dec.{ltb}
@@ -26,10 +27,21 @@ smallShape size = smallOf (size / granuleBytes) (smallCapacity size) (inverse (s
 unfoldable pub mediumShape : ℕ → Shape
 mediumShape size = mediumOf (size / granuleBytes) (spanPages size) (spanCapacity size) (inverse (size / granuleBytes))
 
--- the classes that a caller can name: 0 to 63 and 64 to 75. The rows of a book are `classRows`
+-- the numbers that a caller can name; the ids are twice as many (`classRows`)
 abbrev pub classCount : ℕ
 classCount = 76
 
--- every number has a shape; above 75 it is no class, and its shape is never used
+-- the id of the pool's class with a number; the number of an id
+abbrev pub poolId : ℕ → ℕ
+poolId k = classCount + k
+
+abbrev pub numberOf : ℕ → ℕ
+numberOf c = cond (ltb c classCount) c (c - classCount)
+
+-- by number: every number has a shape; above 75 it is never used
+abbrev pub namedShape : ℕ → Shape
+namedShape c = cond (ltb c 64) (smallShape (getD smallSizes c 16384)) (mediumShape (getD mediumSizes (c - 64) 65472))
+
+-- by id
 unfoldable pub shapeOf : ℕ → Shape
-shapeOf c = cond (ltb c 64) (smallShape (getD smallSizes c 16384)) (mediumShape (getD mediumSizes (c - 64) 65472))
+shapeOf c = namedShape (numberOf c)

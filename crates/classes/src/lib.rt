@@ -11,6 +11,8 @@ pub use class_lut::small_classes;
 pub use in_tables::class_in;
 pub use lookup::size_class;
 pub use medium_lut::medium_classes;
+pub use runs::number_of;
+pub use runs::pool_id;
 pub use runs::shape_of;
 pub use sizes::CLASS_COUNT;
 pub use sizes::CLASS_ROWS;

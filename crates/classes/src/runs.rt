@@ -1,8 +1,9 @@
 // The shape of a class, from its block size.
 ghost use mathlib.Core.Path.{_≡_};
-ghost use Prim.Native.Nat.{_≤_};
-ghost use Rattle.classes.specs.Shape.{inverse, smallOf, mediumOf, shapeOf};
+ghost use Prim.Native.Nat.{_≤_, _<_};
+ghost use Rattle.classes.specs.Shape.{inverse, smallOf, mediumOf, classCount, poolId, numberOf, namedShape, shapeOf};
 use super::Shape;
+use super::sizes::CLASS_COUNT;
 use super::sizes::NUM_CLASSES;
 use super::sizes::PAGE_HEADER;
 use super::sizes::SPAN_HEADER;
@@ -52,9 +53,28 @@ fn medium_shape(block: u32, pages: u32, capacity: u32, inverse: u64) -> Shape
     }
 }
 
-// The shape of the class with an id. Past the last class it is the last one's.
-pub fn shape_of(id: u32) -> Shape
-    ensures { λ r. ⌜ r ≡ shapeOf id ⌝ }
+// The number whose shape and limits an id has.
+pub fn number_of(id: u32) -> u32
+    ensures { λ r. ⌜ r ≡ numberOf id ⌝ }
+{
+    if id < CLASS_COUNT {
+        id
+    } else {
+        id - CLASS_COUNT
+    }
+}
+
+// The id of the pool's class with a number.
+pub fn pool_id(number: u32) -> u32
+    requires { ⌜ number < classCount ⌝ }
+    ensures { λ r. ⌜ r ≡ poolId number ⌝ }
+{
+    CLASS_COUNT + number
+}
+
+// The shape of a class by its number. Past the last class it is the last one's.
+fn named_shape(id: u32) -> Shape
+    ensures { λ r. ⌜ r ≡ namedShape id ⌝ }
 {
     let size = block_bytes(id);
     let block = size / GRANULE;
@@ -68,4 +88,11 @@ pub fn shape_of(id: u32) -> Shape
         medium_capacity_for(size),
         inverse,
     )
+}
+
+// The shape of the class with an id.
+pub fn shape_of(id: u32) -> Shape
+    ensures { λ r. ⌜ r ≡ shapeOf id ⌝ }
+{
+    named_shape(number_of(id))
 }

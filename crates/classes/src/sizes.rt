@@ -17,11 +17,11 @@ pub const NUM_CLASSES: u32 = 64;
 
 pub const NUM_MEDIUM: u32 = 12;
 
-// The classes that a caller can name, small and medium by one number.
+// The numbers that a caller can name: small and medium classes by one number.
 pub const CLASS_COUNT: u32 = 76;
 
-// The class rows of a book.
-pub const CLASS_ROWS: u32 = 76;
+// The rows of the book.
+pub const CLASS_ROWS: u32 = 152;
 
 const CLASSES: [u16; 64] = [
     16,

@@ -7,6 +7,7 @@
 use Rattle.facts.proofs.Prelude.{ℕ, _+_, _≤_, arith, true, false, _&&_, false≢true, List, [], _≡_, refl, eqb, ltb, leb, length}
 use Rattle.facts.proofs.Prelude.{eqb-true, leb-true, le-leb, lt-leb, ltb-true, ltb-false, by-cases, and-left, and-right}
 use Rattle.words.specs.Host.{badHost}
+use Rattle.classes.specs.Shape.{classCount}
 use Rattle.rules.specs.Rules.{rowsIn, rowsFor, badRows, twoRows, noRow, rowsFault, rulesOf}
 use Rattle.fields.specs.Field.{arena, size, get, words}
 use Rattle.fields.specs.Ranges.{maxPages, lengthFault, metaFault}
@@ -104,6 +105,8 @@ module _ (n : ℕ) (b : List ℕ) (some-pages : 1 ≤ n) (few-pages : n ≤ maxP
   turned-is (Calls.mediumTakeBlocks c h l) e = rw (class-turned h 12 c e)
   turned-is (Calls.releaseBlocks c h ws) e = rw (class-turned h 64 c e)
   turned-is (Calls.mediumReleaseBlocks c h ws) e = rw (class-turned h 12 c e)
+  turned-is (Calls.pooledTake c h l) e = rw (class-turned h classCount c e)
+  turned-is (Calls.pooledRelease c h ws) e = rw (class-turned h classCount c e)
   turned-is (Calls.releaseBinChunks c h ws gs fs) e = rw (class-turned h 64 c e)
   turned-is (Calls.commit h m) e = rw (call-turned h e)
   turned-is (Calls.growFrontier h q old new) e = rw (call-turned h e)
@@ -131,6 +134,8 @@ module _ (n : ℕ) (b : List ℕ) (some-pages : 1 ≤ n) (few-pages : n ≤ maxP
   past-three (Calls.mediumTakeBlocks c h l) g = by-cases (ltb c 12) (λ e. rw (e, class-fits h g 12 c e, sized)) (λ e. rw (e, class-none h g 12 c e))
   past-three (Calls.releaseBlocks c h ws) g = by-cases (ltb c 64) (λ e. rw (e, class-fits h g 64 c e, sized, zero-plus c)) (λ e. rw (e, class-none h g 64 c e))
   past-three (Calls.mediumReleaseBlocks c h ws) g = by-cases (ltb c 12) (λ e. rw (e, class-fits h g 12 c e, sized)) (λ e. rw (e, class-none h g 12 c e))
+  past-three (Calls.pooledTake c h l) g = by-cases (ltb c classCount) (λ e. rw (e, class-fits h g classCount c e, sized)) (λ e. rw (e, class-none h g classCount c e))
+  past-three (Calls.pooledRelease c h ws) g = by-cases (ltb c classCount) (λ e. rw (e, class-fits h g classCount c e, sized)) (λ e. rw (e, class-none h g classCount c e))
   past-three (Calls.releaseBinChunks c h ws gs fs) g = by-cases (ltb c 64) (λ e. rw (e, class-fits h g 64 c e, sized)) (λ e. rw (e, class-none h g 64 c e))
   past-three (Calls.commit h m) g = rw (call-fits h g, sized)
   past-three (Calls.growFrontier h q old new) g = rw (call-fits h g, sized)

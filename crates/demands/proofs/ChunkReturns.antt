@@ -8,7 +8,7 @@ use Rattle.facts.proofs.Prelude.{le-ltb, lt-ltb, isNil, filter, every, isSome, 
 use Rattle.words.specs.Host.{hostMax, badHost}
 use Rattle.words.specs.Word.{chunkKind, countOf, pageOf}
 use Rattle.classes.specs.declared.Shape.{Shape}
-use Rattle.classes.specs.Shape.{smallShape, shapeOf}
+use Rattle.classes.specs.Shape.{smallShape, shapeOf, classCount}
 use Rattle.classes.proofs.Shapes.{shape-sound}
 use Rattle.rules.specs.Rules.{rulesOf}
 use Rattle.rules.specs.declared.Limits.{Limits}
@@ -152,7 +152,7 @@ module _ (c : ℕ) (lim : Limits) (s : Class) (h : ℕ) (ws gs fs : List ℕ) (g
 -- ---- on the words
 pub small-paged : (c : ℕ) → c < 64 → shapeOf c .pages ≡ 1
 unfolding shapeOf smallShape
-small-paged c l = rw (lt-ltb c 64 l)
+small-paged c l = rw (lt-ltb c classCount (omega arith), lt-ltb c 64 l)
 
 module _ (n : ℕ) (rows b : List ℕ) (o : Opens n rows b) (xs : List Call) (c h : ℕ) (ws gs fs : List ℕ) (small : c < 64) where
   abbrev vs : List Event

@@ -1,5 +1,6 @@
 -- A reply's number is 0 exactly if its answer is no refusal; so a call that names a class is refused exactly by number 3 or if the model's
 -- class refuses it.
+--     code-exactly                       this for every call, on any book
 --     classAsk, classRun, classAnswer    what the class asks of the arena, the run that it is given, and its answer
 --     next-host                          one that is not refused passed number 3
 --     step-class, next-answer            one that passed it goes to its class, whose answer is the reply's; `next-class`, on the words
@@ -15,7 +16,10 @@ use Rattle.model.specs.Chunks.{answer}
 use Rattle.model.specs.Heap.{Heap, Outcome, offer, finish, interact, classCall, step}
 use Rattle.model.specs.History.{heapAfter}
 use Rattle.model.proofs.Ways.{host-of}
+use Rattle.model.proofs.HeapLaws.{run-answered}
+use Rattle.vigbuso.specs.Direct.{commitOn}
 use Rattle.refinement.specs.Run.{classReply, callReply}
+use Rattle.demands.specs.Call.{call}
 use Rattle.demands.specs.Run.{Opens, bookAfter, next}
 use Rattle.demands.proofs.Histories.{next-is, next-agrees}
 
@@ -37,6 +41,22 @@ class-exactly : (n : ℕ) (b : List ℕ) (c : ℕ) (r : Request) → (classReply
 class-exactly n b c (Calls.take h l) = zero-exactly _ _ refl
 class-exactly n b c (Calls.giveBack h ws) = zero-exactly _ _ refl
 class-exactly n b c (Calls.giveChunks h ws gs fs) = zero-exactly _ _ refl
+
+-- every call, on any book
+pub code-exactly : (b : List ℕ) (x : Call) → (call b x .code ≡ 0) ↔ (isRefused (call b x .answer) ≡ false)
+unfolding call
+code-exactly b (Calls.takeBlocks c h l) = zero-exactly _ _ refl
+code-exactly b (Calls.mediumTakeBlocks c h l) = zero-exactly _ _ refl
+code-exactly b (Calls.releaseBlocks c h ws) = zero-exactly _ _ refl
+code-exactly b (Calls.mediumReleaseBlocks c h ws) = zero-exactly _ _ refl
+code-exactly b (Calls.pooledTake c h l) = zero-exactly _ _ refl
+code-exactly b (Calls.pooledRelease c h ws) = zero-exactly _ _ refl
+code-exactly b (Calls.releaseBinChunks c h ws gs fs) = zero-exactly _ _ refl
+code-exactly b (Calls.commit h m) = let w = commitOn b h m in zero-exactly (w .code) _ (run-answered (w .run) (w .fresh))
+code-exactly b (Calls.growFrontier h q old new) = zero-exactly _ _ refl
+code-exactly b (Calls.release h q m) = zero-exactly _ _ refl
+code-exactly b (Calls.contains o k) = (λ e. refl, λ e. refl)
+code-exactly b Calls.report = zero-exactly _ _ refl
 
 -- ---- on a heap
 module _ (n : ℕ) (H : Heap) (x : Call) (d : Named) (e : names x ≡ some d) where

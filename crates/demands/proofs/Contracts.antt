@@ -6,6 +6,7 @@ use Rattle.facts.proofs.Prelude.{ap, ap₂, _∙_, subst, eqb, leb, length, eqb
 use Rattle.words.specs.Host.{badHost}
 use Rattle.fields.specs.Field.{arena, size, state, frontier, holePages, get}
 use Rattle.fields.specs.Ranges.{maxPages, metaFault}
+use Rattle.fields.proofs.Sound.{head-frontier}
 use Rattle.model.specs.declared.Hole.{Hole}
 use Rattle.model.specs.Calls as Calls
 use Rattle.model.specs.Calls.{Call, taken, fate}
@@ -71,7 +72,7 @@ every-at t (suc i) (h ∷ hs) l e = every-at t i hs (omega arith) (and-right (t 
 module _ (n : ℕ) (b : List ℕ) (valid : commitValid n b ≡ true) where
   low-frontier : get b (arena frontier) ≤ n
   unfolding commitValid recordValid
-  low-frontier = leb-true (get b (arena frontier)) n (and-left _ _ (and-right (leb (get b (arena state)) 2) _ (and-left _ _ valid)))
+  low-frontier = head-frontier n b (and-left _ _ (and-right (leb (get b (arena state)) 2) _ (and-left _ _ valid)))
 
   valid-holes : every (holeValid (get b (arena holePages)) (get b (arena frontier))) (loadArena b .store .holes) ≡ true
   unfolding commitValid holesValid loadArena loadStore

@@ -6,18 +6,18 @@ use Rattle.facts.proofs.Prelude.{[], _∷_, map, _⊎_, inl, inr, ⊎-elim, Opt
 use Rattle.facts.proofs.Prelude.{drop, getD, set, getD-set-other, ltb-true, ltb-false, leb-true, leb-false, le-leb, lt-ltb, eqb-true, eqb-false, eq-eqb}
 use Rattle.facts.proofs.Prelude.{ne-eqb, not-true, not-false, isNil, All, every, filter, elem, distinct, by-cases, and-left, and-right, nor-left, nor-right}
 use Rattle.words.specs.Host.{badHost}
-use Rattle.words.specs.Limits.{classRows}
+use Rattle.words.specs.Limits.{classRows, bookFormat}
 use Rattle.words.specs.Word.{granuleOf, chunkKind, pageOf, countOf}
 use Rattle.classes.specs.declared.Shape.{Shape}
-use Rattle.classes.specs.Shape.{shapeOf}
+use Rattle.classes.specs.Shape.{shapeOf, classCount}
 use Rattle.classes.specs.way.Sound.{Sound}
 use Rattle.classes.proofs.Shapes.{shape-sound}
 use Rattle.rules.specs.Rules.{rulesOf}
 use Rattle.fields.specs.Field as Fields
-use Rattle.fields.specs.Field.{ClassField, Field, next, prev, region, off, row, pageOff, first, arena, mark, class, hole, page, out, slot, size, state, frontier, holes, held, partial, empty, cold, get, put, same, ok, words}
-use Rattle.fields.specs.Ranges.{lengthFault, metaFault, maxPages}
+use Rattle.fields.specs.Field.{ClassField, Field, next, prev, region, off, row, pageOff, first, arena, mark, class, hole, page, out, slot, size, format, state, frontier, holes, held, partial, empty, cold, get, put, same, ok, words}
+use Rattle.fields.specs.Ranges.{lengthFault, metaFault, maxPages, headValid}
 use Rattle.fields.specs.Clear.{clearOut, clearMarks}
-use Rattle.fields.proofs.Sound.{sound}
+use Rattle.fields.proofs.Sound.{sound, head-frontier}
 use Rattle.fields.proofs.Laws.{get-put-other}
 use Rattle.fields.proofs.Changes.{same-eq, Changes, changes-none, changes-put, changes-trans, changes-mono}
 use Rattle.fields.proofs.Clear.{changes-clear}
@@ -146,7 +146,7 @@ clear-clears b q (suc m) h = clears-then (clear-clears b q m (omega arith)) (put
 record-fits : (n : ℕ) (b : List ℕ) → recordValid n b ≡ true → get b (arena holes) ≤ 4096
 unfolding recordValid
 record-fits n b e =
-    leb-true (get b (arena holes)) 4096 (and-left (leb (get b (arena holes)) 4096) _ (and-right (leb (get b (arena frontier)) n) _ (and-right (leb (get b (arena state)) 2) _ e)))
+    leb-true (get b (arena holes)) 4096 (and-left (leb (get b (arena holes)) 4096) _ (and-right (headValid n b) _ (and-right (leb (get b (arena state)) 2) _ e)))
 
 give-fits : (n : ℕ) (b : List ℕ) (m : ℕ) → giveValid n b m ≡ true → get b (arena holes) ≤ 4096
 unfolding giveValid
@@ -267,8 +267,8 @@ module _ (n : ℕ) (few : n ≤ maxPages) (c : ℕ) (sh : Shape) (sd : Sound sh)
     blocks-clear : (b : List ℕ) (h : ℕ) → c < classRows → words n ≤ length b → Clears b (takeBlocks n b c sh h l .book)
     unfolding takeBlocks
     blocks-clear b h known long =
-        clears-cond b (ltb n (get b (arena frontier))) (tookNone b l 13) _ (λ e. clears-none b) (λ e.
-        let a : TakePre n b c sh = record { known = known; shape = sd; few = few; long = long; bound = ltb-false n (get b (arena frontier)) e } in
+        clears-cond b (not (headValid n b)) (tookNone b l 13) _ (λ e. clears-none b) (λ e.
+        let a : TakePre n b c sh = record { known = known; shape = sd; few = few; long = long; bound = head-frontier n b (not-false (headValid n b) e) } in
         clears-cond b (not (eqb (get b (class partial c)) 0)) (fromPartial n b c sh l) _ (λ u. partial-clears b a) (λ u.
         let alone = eqb-true (get b (class partial c)) 0 (not-false _ u) in
         clears-cond b (not (eqb (get b (class empty c)) 0)) (fromPark n b c sh Empty l) _ (λ v. park-clears b a alone Empty (eqb-false (get b (class empty c)) 0 (not-true _ v))) (λ v.
@@ -516,7 +516,7 @@ module _ (n : ℕ) (small-arena : n ≤ maxPages) (b : List ℕ) (hb : leb (word
           let w : destinationAt d c sh ≡ destinationAt b c sh = rw z destination in
           let g : isArena (destinationAt b c sh) ≡ true = ap isArena (sym w) ∙ arena-alone sh (destinationAt d c sh) y in
           let a : eqb (get b (page Fields.free q) + m) (get b (page Fields.carved q)) ≡ true = eq-eqb (get b (page Fields.free q) + m) (get b (page Fields.carved q)) (omega (arith, eqb-true (get d (page Fields.carved q)) (get d (page Fields.free q)) x)) in
-          give-fits n b (sh .pages) (rw (a, g) at (and-right (rowValid b c) _ (and-right (pageValid b sh m q) _ (and-right (leb (get b (arena frontier)) n) _ f))))
+          give-fits n b (sh .pages) (rw (a, g) at (and-right (rowValid b c) _ (and-right (pageValid b sh m q) _ (and-right (headValid n b) _ f))))
       by d z false x y = absurd (omega (arith, y))
 
   last-keeps : (q : ℕ) (r : Released) → Changes inPages b (r .book) → (r .fate ≡ arenaFate → get b (arena holes) ≤ 4096) → Keeps b (lastStep sh q r .book)
@@ -539,7 +539,7 @@ module _ (n : ℕ) (small-arena : n ≤ maxPages) (b : List ℕ) (hb : leb (word
       let outs = passed n b c sh ws (eqb-true (outFault n b c sh ws) 0 e₃) .out in
       let fine = all-fine n b c sh few ws outs in
       let s : every small (map (indexOf sh (q-of ws)) ws) ≡ true = rw (filter-all (λ w. eqb (startOf b w) (q-of ws)) ws e₄) at (on-small c hc sh few h ws b fine b (λ x. refl) (q-of ws) ws fine) in
-      let l : get b (page Fields.free (q-of ws)) + length (map (indexOf sh (q-of ws)) ws) ≤ 4096 = omega (arith, length-map (indexOf sh q) ws, page-roomy n b c sh few (length ws) q (and-left (pageValid b sh (length ws) q) _ (and-right (leb (get b (arena frontier)) n) _ e₅))) in
+      let l : get b (page Fields.free (q-of ws)) + length (map (indexOf sh (q-of ws)) ws) ≤ 4096 = omega (arith, length-map (indexOf sh q) ws, page-roomy n b c sh few (length ws) q (and-left (pageValid b sh (length ws) q) _ (and-right (headValid n b) _ e₅))) in
       rw (e₁, e₂, e₃, e₄, e₅) (last-keeps q (placed false (back b q is) c sh h q) (returns inPages c q hc (lets-pages c q) sh few h false b is s l)
       (given-fits q is (first-low ws e₁ outs) s l (length ws) (length-map (indexOf sh q) ws) e₅)))
       (λ e₅. rw (e₁, e₂, e₃, e₄, e₅) (changes-none notMark b)))
@@ -586,7 +586,7 @@ module _ (n : ℕ) (small-arena : n ≤ maxPages) (b : List ℕ) (hb : leb (word
       let fine = all-fine n b c sh few ws outs in
       let u = and-left (distinct (map pageOf gs)) _ e₅ in
       let fits = and-left (every (chunkFits b ws) gs) _ (and-right (distinct (map pageOf gs)) _ e₅) in
-      let valid = and-left (every (λ g. pageValid b sh (countOf g) (pageOf g)) gs) _ (and-right (leb (get b (arena frontier)) n) _ e₆) in
+      let valid = and-left (every (λ g. pageValid b sh (countOf g) (pageOf g)) gs) _ (and-right (headValid n b) _ e₆) in
       let s = settleChunks b c sh h ws gs in
       let k = settle-changes c hc sh few h ws b fine gs b (λ x. refl) u (all-roomy ws gs fine fits valid) (all-frees ws gs fine) in
       rw (e₁, e₂, e₃, e₄, e₅, e₆)
@@ -678,6 +678,8 @@ others-keep b (Calls.takeBlocks c h l) t = absurd (true≢false t)
 others-keep b (Calls.mediumTakeBlocks c h l) t = absurd (true≢false t)
 others-keep b (Calls.releaseBlocks c h ws) t = list-leaves 0 64 (omega arith) b c h ws
 others-keep b (Calls.mediumReleaseBlocks c h ws) t = list-leaves 64 12 (omega arith) b c h ws
+others-keep b (Calls.pooledTake c h l) t = absurd (true≢false t)
+others-keep b (Calls.pooledRelease c h ws) t = list-leaves classCount classCount (omega arith) b c h ws
 others-keep b (Calls.releaseBinChunks c h ws gs fs) t = group-leaves b c h ws gs fs
 others-keep b (Calls.commit h m) t = direct-turn b (eqb (callFault b h) 0) (λ (w : Committed). w .book) _ _ refl (call-keeps (get b (arena size)) b h m)
 others-keep b (Calls.growFrontier h q old new) t = direct-turn b (eqb (callFault b h) 0) (λ (w : Done). w .book) _ _ refl (grow-keeps (get b (arena size)) b h q old new)
@@ -691,6 +693,8 @@ takes-clear b (Calls.takeBlocks c h l) t = take-leaves 0 64 (omega arith) b c h 
 takes-clear b (Calls.mediumTakeBlocks c h l) t = take-leaves 64 12 (omega arith) b c h l
 takes-clear b (Calls.releaseBlocks c h ws) t = absurd (false≢true t)
 takes-clear b (Calls.mediumReleaseBlocks c h ws) t = absurd (false≢true t)
+takes-clear b (Calls.pooledTake c h l) t = take-leaves classCount classCount (omega arith) b c h l
+takes-clear b (Calls.pooledRelease c h ws) t = absurd (false≢true t)
 takes-clear b (Calls.releaseBinChunks c h ws gs fs) t = absurd (false≢true t)
 takes-clear b (Calls.commit h m) t = absurd (false≢true t)
 takes-clear b (Calls.growFrontier h q old new) t = absurd (false≢true t)
@@ -717,9 +721,11 @@ module _ (n : ℕ) (rows b : List ℕ) where
   unfolding opened headWords get
   opened-leaves p j l =
       let o = lt-ltb j 128 l in
-      ruled-changes (put (Open.cleared b 768) (arena size) n) (rulesOf rows) classRows (omega arith) .kept (mark p j) o refl
-      ∙ get-put-other (Open.cleared b 768) (arena size) (mark p j) n refl o refl
-      ∙ cleared-past b 768 (40144 + 4112 * p + j) (omega arith)
+      let c = Open.cleared b 1376 in
+      ruled-changes (put (put c (arena size) n) (arena format) bookFormat) (rulesOf rows) classRows (omega arith) .kept (mark p j) o refl
+      ∙ get-put-other (put c (arena size) n) (arena format) (mark p j) bookFormat refl o refl
+      ∙ get-put-other c (arena size) (mark p j) n refl o refl
+      ∙ cleared-past b 1376 (40144 + 4112 * p + j) (omega arith)
 
   open-leaves : (p j : ℕ) → j < 128 → get (openOn b n rows .book) (mark p j) ≡ get b (mark p j)
   unfolding openOn

@@ -64,7 +64,7 @@ live-bare k [] e l = l
 live-bare k (v ∷ vs) e (inl p) = inl (p .0, bare-kept e vs ∙ p .1)
 live-bare k (v ∷ vs) e (inr l) = inr (live-bare (suc k) vs e l)
 
-bare-direct : (f : ℕ → Bool) (vs : List Event) (x : ℕ) → directFrom f (bare vs) x ≡ directFrom f vs x
+pub bare-direct : (f : ℕ → Bool) (vs : List Event) (x : ℕ) → directFrom f (bare vs) x ≡ directFrom f vs x
 bare-direct f [] x = refl
 bare-direct f (v ∷ vs) x = bare-direct (directNext (v .call) (v .answer) f) vs x
 
@@ -74,7 +74,7 @@ bare-disjoint vs d = record {
   offDirect = λ e l b h. bare-direct (λ x. false) vs (b / pageBytes) ∙ d .offDirect e (bare-live 0 vs e l) b h;
 }
 
-bare-iso : (n : ℕ) (vs : List Event) → IsoDisjoint n vs → IsoDisjoint n (bare vs)
+pub bare-iso : (n : ℕ) (vs : List Event) → IsoDisjoint n vs → IsoDisjoint n (bare vs)
 bare-iso n vs d = record {
   inArena = λ e l. d .inArena e (bare-live 0 vs e l);
   noCommon = λ e e′ l l′. d .noCommon e e′ (bare-live 0 vs e l) (bare-live 0 vs e′ l′);

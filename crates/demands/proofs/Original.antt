@@ -4,7 +4,7 @@ use Rattle.facts.proofs.Prelude.{subst, leb, ltb, length, take, le-leb, lt-leb,
 use Rattle.classes.specs.declared.Sized.the-variants.{Small, Medium}
 use Rattle.classes.specs.Sizes.{maxSmallSize, maxMediumSize, pageBytes}
 use Rattle.classes.specs.Lookup.{sizeClass, classForSize, mediumClassForSize}
-use Rattle.classes.specs.Shape.{shapeOf}
+use Rattle.classes.specs.Shape.{shapeOf, classCount}
 use Rattle.rules.specs.declared.Limits.{Limits}
 use Rattle.rules.specs.Rules.{Rules, limits, plainRules}
 use Rattle.model.specs.Calls.{Call}
@@ -29,11 +29,11 @@ mebibytes n =
 -- document 01's limits of a class
 small-plain : (c : ℕ) → c < 64 → plainRules c ≡ limits 4 256
 unfolding plainRules
-small-plain c h = rw (lt-ltb c 64 h)
+small-plain c h = rw (lt-ltb c classCount (omega arith), lt-ltb c 64 h)
 
-medium-plain : (c : ℕ) → 64 ≤ c → plainRules c ≡ limits 32 256
+medium-plain : (c : ℕ) → 64 ≤ c → c < classCount → plainRules c ≡ limits 32 256
 unfolding plainRules
-medium-plain c h = rw (le-ltb c 64 h)
+medium-plain c h l = rw (lt-ltb c classCount l, le-ltb c 64 h)
 
 module _ (s : Start) (o : Starts s) (none : isNil (ruleRows s) ≡ true) where
   plain : rules s ≡ plainRules
@@ -51,9 +51,9 @@ module _ (s : Start) (o : Starts s) (none : isNil (ruleRows s) ≡ true) where
         let first : (zs : List Call) → Type 0 = λ zs. take (length (calls s xs)) (answers (pages s) plainRules zs) ≡ take (length (calls s xs)) (originalAnswers (pages s) zs) in
         ap (take (length (calls s xs))) (plain-answers (xs ++ ys)) ∙ subst first (append-assoc (did s) xs ys) (Model.equality (pages s) (calls s xs) .before ys g);
     limits = λ c e k h. parking s o .kept c e k h ∙ ap (λ (l : Limits). goesTo (ltb e (l .empty)) (ltb k (l .cold))) (ap (λ (r : Rules). r c) plain ∙ small-plain c h);
-    spanLimits = λ c e k h.
-        parking s o .keptSpans c e k h
-        ∙ ap (λ (l : Limits). goesTo (ltb e (l .empty) && leb (suc e * shapeOf c .pages) 128) (ltb k (l .cold))) (ap (λ (r : Rules). r c) plain ∙ medium-plain c h)
+    spanLimits = λ c e k h l.
+        parking s o .keptSpans c e k h l
+        ∙ ap (λ (l : Limits). goesTo (ltb e (l .empty) && leb (suc e * shapeOf c .pages) 128) (ltb k (l .cold))) (ap (λ (r : Rules). r c) plain ∙ medium-plain c h l)
         ∙ ap (λ (b : Bool). goesTo (ltb e 32 && b) (ltb k 256)) (mebibytes (suc e * shapeOf c .pages));
   }
 

@@ -5,9 +5,10 @@ use Rattle.facts.proofs.Prelude.{ap, _∙_, subst, leb, ltb, length, ltb-true, 
 use Rattle.words.specs.Limits.{classRows}
 use Rattle.words.specs.Word.{pageOf}
 use Rattle.classes.specs.declared.Shape.{Shape}
-use Rattle.classes.specs.Shape.{shapeOf, smallShape, mediumShape}
+use Rattle.classes.specs.Shape.{shapeOf, smallShape, mediumShape, classCount, poolId}
+use Rattle.classes.proofs.Shapes.{number-low, number-pool, shape-alike}
 use Rattle.rules.specs.declared.Limits.{Limits}
-use Rattle.rules.specs.Rules.{Rules, plainRules, rulesOf, Fit}
+use Rattle.rules.specs.Rules.{Rules, plainRules, limitsIn, rowsIn, rulesOf, Fit}
 use Rattle.rules.proofs.Cover.{rows-cover, rules-fit, plain-rules}
 use Rattle.model.specs.Calls as Calls
 use Rattle.model.specs.Calls.{Call, isRefused, Request, Way, turned, straight, toClass, wayOf}
@@ -180,16 +181,21 @@ module _ (c : ℕ) (lim : Limits) (e k : ℕ) where
   unfolding destinationOf shapeOf smallShape
   small-goes f h =
       by-cases (ltb e (lim .empty))
-      (λ t. let l : suc e * 1 ≤ 256 = omega (arith, ltb-true e (lim .empty) t, f .empty) in rw (lt-ltb c 64 h, t, le-leb (suc e * 1) 256 l))
-      (λ t. rw (lt-ltb c 64 h, t))
+      (λ t. let l : suc e * 1 ≤ 256 = omega (arith, ltb-true e (lim .empty) t, f .empty) in rw (lt-ltb c classCount (omega arith), lt-ltb c 64 h, t, le-leb (suc e * 1) 256 l))
+      (λ t. rw (lt-ltb c classCount (omega arith), lt-ltb c 64 h, t))
 
-  medium-goes : 64 ≤ c → destinationOf (shapeOf c) lim e k ≡ goesTo (ltb e (lim .empty) && leb (suc e * shapeOf c .pages) 128) (ltb k (lim .cold))
+  medium-goes : 64 ≤ c → c < classCount → destinationOf (shapeOf c) lim e k ≡ goesTo (ltb e (lim .empty) && leb (suc e * shapeOf c .pages) 128) (ltb k (lim .cold))
   unfolding destinationOf shapeOf mediumShape
-  medium-goes h = rw (le-ltb c 64 h)
+  medium-goes h l = rw (lt-ltb c classCount l, le-ltb c 64 h)
 
 nil-rules : (rows : List ℕ) → isNil rows ≡ true → rulesOf rows ≡ plainRules
 nil-rules [] e = plain-rules
 nil-rules (x ∷ rows) e = absurd (false≢true e)
+
+-- the limits go by the number
+limits-alike : (rows : List ℕ) (c : ℕ) → ltb c classCount ≡ true → rulesOf rows (poolId c) ≡ rulesOf rows c
+unfolding rulesOf
+limits-alike rows c low = ap (limitsIn (rowsIn rows)) (number-pool c ∙ number-low c (ltb-true c classCount low))
 
 pub parking : (s : Start) → Starts s → Parking s
 parking s o =
@@ -200,6 +206,7 @@ parking s o =
       no-rows = nil-rules rows;
       fit = rules-fit rows r;
       stand = λ xs c h. represents s o xs .rules c (lt-ltb c classRows h) .same ∙ rw (rules-after (pages s) (rules s) (calls s xs));
+      alike = λ c h. (limits-alike rows c (lt-ltb c classCount h), shape-alike c (lt-ltb c classCount h));
       within = λ xs. within-after (pages s) (rules s) (calls s xs);
       kept = λ c e k h. small-goes c (rules s c) e k (rules-fit rows r c) h;
       keptSpans = λ c e k h. medium-goes c (rules s c) e k h;

@@ -1,12 +1,14 @@
--- What a caller sees of the pool's exported functions is what `poolCall` says (specs/PoolContracts).
+-- What a caller sees of the exported functions is what `poolCall` says (specs/PoolContracts).
 --     pool-observes-call    of one function
 --     pool-in-turn          of calls in turn
 use Rattle.facts.proofs.Prelude.{ℕ, zero, suc, _-_, _≤_, _<_, arith, Bool, true, false, cond, not, _||_, List, [], _∷_, _++_, map}
 use Rattle.facts.proofs.Prelude.{Option, none, some, _≡_, refl, ap, ap₂, _∙_, eqb, ltb, length, getD, ne-eqb, eqb-false, All, by-cases}
-use Rattle.classes.specs.Shape.{shapeOf, classCount}
+use Rattle.classes.specs.Shape.{shapeOf, classCount, poolId}
 use Rattle.classes.specs.declared.Shape.{Shape}
 use Rattle.classes.proofs.Shapes.{shape-sound}
-use Rattle.fields.specs.Field.{arena, size, class, frontier, partial, empty, cold, get}
+use Rattle.fields.specs.Field.{arena, size, class, partial, empty, cold, get}
+use Rattle.fields.specs.Ranges.{formatValid, headValid}
+use Rattle.model.specs.Calls.{Call, isPooled}
 use Rattle.model.specs.Page.{wordOf}
 use Rattle.model.specs.Release.{ofKind}
 use Rattle.model.proofs.Pages.{all-append}
@@ -23,9 +25,12 @@ use Rattle.poolcalls.specs.Stock.{countIn, blockIn}
 use Rattle.poolcalls.specs.Calls.{PoolReply, poolReply, codeOf, blockOut, countValid, topValid, grantedIn, bringOn, tookOn, allocOn, releasedOn, freedOn, freeOn, trimOn}
 use Rattle.vigbuso.specs.Faults.{classFault}
 use Rattle.vigbuso.specs.Pool.{poolOn}
+use Rattle.refinement.specs.Direct.{Reply}
 use Rattle.poolrefinement.specs.Run.{poolAnswersFrom}
-use Rattle.demands.specs.Pool.{poolCall}
-use Rattle.demands.specs.PoolContracts.{blockObserved, freeObserved, PoolObserves, alloc, free, trim, direct, PoolInTurn, ends, calls}
+use Rattle.demands.specs.Contracts.{Observes}
+use Rattle.demands.specs.Contracts as Contracts
+use Rattle.demands.specs.Mixed.{poolCall}
+use Rattle.demands.specs.PoolContracts.{blockObserved, freeObserved, PoolObserves, alloc, free, trim, heap, PoolInTurn, ends, calls}
 use Rattle.demands.proofs.Contracts.{observes-call}
 
 -- ---- the words that a take answers, on any book: none is 0, since each has its class's kind
@@ -91,7 +96,7 @@ module _ (c : ℕ) (sh : Shape) (kind : 1 ≤ sh .kind) where
       unfolding takeCall takeBlocks
       take-some h =
           full-cond (ltb (length l) (sh .batch)) _ _ full-none
-          (full-cond (ltb n (get b (arena frontier))) _ _ full-none
+          (full-cond (not (headValid n b)) _ _ full-none
           (full-cond (not (eqb (get b (class partial c)) 0)) _ _ partial-some
           (full-cond (not (eqb (get b (class empty c)) 0)) _ _ (park-some Empty)
           (full-cond (not (eqb (get b (class cold c)) 0)) _ _ (park-some Cold) (new-some h)))))
@@ -121,17 +126,17 @@ trimmed-read : (w : ℕ) → Some w → Reads (blockObserved trimmed) (trimmed w
 trimmed-read w h old = rw (ne-eqb w 0 (λ z. omega arith))
 
 block-some : (b : List ℕ) (c k : ℕ) → Some (blockIn b c k)
-block-some b c k = omega (arith, shape-sound c .named)
+block-some b c k = omega (arith, shape-sound (poolId c) .named)
 
 module _ (n : ℕ) (b : List ℕ) (c h : ℕ) where
   alloc-read : Reads (blockObserved granted) (allocOn n b c h .answer)
   unfolding allocOn tookOn bringOn
   alloc-read =
-      let t = takeCall n b c (shapeOf c) h blank in
+      let t = takeCall n b (poolId c) (shapeOf (poolId c)) h blank in
       reads-cond (blockObserved granted) (eqb (countIn b c) 0) _ _
       (λ e. reads-cond (blockObserved granted) (eqb (t .code) 0) _ _
       (λ u. reads-cond (blockObserved granted) (eqb (t .count) 0) _ _ (λ v old. refl)
-      (λ v. granted-read (getD (t .list) (t .count - 1) 0) (take-some c (shapeOf c) (shape-sound c .named) blank n b h .words (t .count - 1) (less (t .count) (eqb-false (t .count) 0 v)))))
+      (λ v. granted-read (getD (t .list) (t .count - 1) 0) (take-some (poolId c) (shapeOf (poolId c)) (shape-sound (poolId c) .named) blank n b h .words (t .count - 1) (less (t .count) (eqb-false (t .count) 0 v)))))
       (refused-read granted (t .code)))
       (λ e. reads-cond (blockObserved granted) (topValid n b c) _ _ (λ u. granted-read (blockIn b c (countIn b c - 1)) (block-some b c (countIn b c - 1))) (λ u. refused-read granted 13 refl))
     where
@@ -143,8 +148,9 @@ module _ (n : ℕ) (b : List ℕ) (c h : ℕ) where
   unfolding trimOn releasedOn
   trim-read =
       let w = blockIn b c (countIn b c - 1) in
-      let z = releaseBlocks n b c (shapeOf c) h (w ∷ []) in
-      reads-cond (blockObserved trimmed) (eqb (countIn b c) 0) _ _ (λ e old. refl)
+      let z = releaseBlocks n b (poolId c) (shapeOf (poolId c)) h (w ∷ []) in
+      reads-cond (blockObserved trimmed) (eqb (countIn b c) 0) _ _
+      (λ e. reads-cond (blockObserved trimmed) (formatValid b) _ _ (λ u old. refl) (λ u. refused-read trimmed 13 refl))
       (λ e. reads-cond (blockObserved trimmed) (topValid n b c) _ _
       (λ u. reads-cond (blockObserved trimmed) (eqb (z .code) 0) _ _ (λ v. trimmed-read w (block-some b c (countIn b c - 1))) (refused-read trimmed (z .code)))
       (λ u. refused-read trimmed 13 refl))
@@ -152,10 +158,11 @@ module _ (n : ℕ) (b : List ℕ) (c h : ℕ) where
   free-read : (w : ℕ) → Reads bareObserved (freeOn n b c h w .answer)
   unfolding freeOn freedOn releasedOn
   free-read w =
-      let z = releaseBlocks n b c (shapeOf c) h (w ∷ []) in
-      reads-cond bareObserved (not (ofKind (shapeOf c .kind) w)) _ _ (λ e. free-refused 9 refl)
+      let z = releaseBlocks n b (poolId c) (shapeOf (poolId c)) h (w ∷ []) in
+      reads-cond bareObserved (not (ofKind (shapeOf (poolId c) .kind) w)) _ _ (λ e. free-refused 9 refl)
       (λ e. reads-cond bareObserved (not (grantedIn n b c w)) _ _ (λ u. free-refused 10 refl)
-      (λ u. reads-cond bareObserved (ltb (countIn b c) (stockMost c)) _ _ (λ v old. refl)
+      (λ u. reads-cond bareObserved (ltb (countIn b c) (stockMost c)) _ _
+      (λ v. reads-cond bareObserved (formatValid b) _ _ (λ x old. refl) (λ x. free-refused 13 refl))
       (λ v. reads-cond bareObserved (countValid b c) _ _
       (λ x. reads-cond bareObserved (eqb (z .code) 0) _ _ (λ y old. refl) (free-refused (z .code)))
       (λ x. free-refused 13 refl))))
@@ -180,13 +187,26 @@ module _ (b : List ℕ) (c h : ℕ) where
   unfolding poolOn
   free-reply w = reads-cond bareObserved (eqb fault 0) _ _ (λ e. free-read n b c h w) (free-refused fault)
 
+-- no function has a pooled call
+plain : {b : List ℕ} {x : Call} {w : Reply} → Observes b x w → isPooled x ≡ false
+plain (Contracts.take-blocks c h r k k′ v v′ b′ l l′ e) = refl
+plain (Contracts.medium-take-blocks c h r k k′ v v′ b′ l l′ e) = refl
+plain (Contracts.release-blocks c h r f f′ b′ ws e) = refl
+plain (Contracts.medium-release-blocks c h r f f′ b′ ws e) = refl
+plain (Contracts.release-bin-chunks c h r b′ ws gs fs fs′ e) = refl
+plain (Contracts.commit h m r q q′ f f′ b′ e) = refl
+plain (Contracts.grow-frontier h q old new r g g′ b′ e) = refl
+plain (Contracts.release h q m r b′ e) = refl
+plain (Contracts.contains o k r e) = refl
+plain (Contracts.report r fs fs′ e) = refl
+
 -- ---- the calls
 pub pool-observes-call : {b : List ℕ} {x : PoolCall} {s : PoolReply} → PoolObserves b x s → s ≡ poolCall b x
 unfolding poolCall
 pool-observes-call {b} (alloc c h r w w′ b′ e) = rw (e .code, e .book, e .block) (ap (λ a. poolReply a (poolOn b c (Pool.alloc h) .book)) (alloc-reply b c h w))
 pool-observes-call {b} (free c h w r b′ e) = rw (e .code, e .book) (ap (λ a. poolReply a (poolOn b c (Pool.free h w) .book)) (free-reply b c h w 0))
 pool-observes-call {b} (trim c h r w w′ b′ e) = rw (e .code, e .book, e .block) (ap (λ a. poolReply a (poolOn b c (Pool.trim h) .book)) (trim-reply b c h w))
-pool-observes-call (direct d w s) = rw (observes-call s)
+pool-observes-call (heap x w s) = rw (observes-call s, plain s)
 
 pub pool-in-turn : {b : List ℕ} {xs : List PoolCall} {ss : List PoolReply} → PoolInTurn b xs ss → map (λ s. s .answer) ss ≡ poolAnswersFrom poolCall b xs
 pool-in-turn (ends b) = refl

@@ -1,14 +1,15 @@
 -- Each of the pool's calls answers the first number of its table that applies, and then leaves the book and its out-parameter.
-use Rattle.facts.proofs.Prelude.{ℕ, suc, _-_, _*_, _<_, _≤_, arith, Bool, true, false, cond, not, _&&_, _||_, List, [], _∷_, _++_, _↔_}
+use Rattle.facts.proofs.Prelude.{ℕ, suc, _-_, _*_, _<_, _+_, _≤_, arith, Bool, true, false, cond, not, _&&_, _||_, List, [], _∷_, _++_, _↔_, _⊎_, inl, inr}
 use Rattle.facts.proofs.Prelude.{_≡_, refl, sym, ap, ap₂, _∙_, eqb, ltb, leb, eq-eqb, eqb-true, eqb-false, ltb-true, ltb-false, lt-ltb}
-use Rattle.facts.proofs.Prelude.{le-ltb, le-leb, lt-leb, leb-true, leb-false, not-false, by-cases, and-left, and-right, and-no, or-right}
+use Rattle.facts.proofs.Prelude.{le-ltb, le-leb, lt-leb, leb-true, leb-false, not-false, by-cases, and-left, and-right, and-no, and-true, or-right}
 use Rattle.words.specs.Host.{badHost, digit}
+use Rattle.words.specs.Limits.{classRows}
 use Rattle.words.specs.Word.{kindOf}
 use Rattle.classes.specs.declared.Shape.{Shape}
-use Rattle.classes.specs.Shape.{shapeOf, classCount}
-use Rattle.classes.proofs.Shapes.{shape-sound}
-use Rattle.fields.specs.Field.{arena, page, size, owner, get}
-use Rattle.fields.specs.Ranges.{metaFault, maxPages}
+use Rattle.classes.specs.Shape.{shapeOf, classCount, poolId, numberOf}
+use Rattle.classes.proofs.Shapes.{shape-sound, number-pool}
+use Rattle.fields.specs.Field.{arena, page, size, frontier, owner, get}
+use Rattle.fields.specs.Ranges.{metaFault, maxPages, formatValid, headValid}
 use Rattle.model.specs.Release.{ofKind}
 use Rattle.pages.specs.Stack.{pageAt, indexOf}
 use Rattle.pages.proofs.Descending.{digit-le}
@@ -16,7 +17,7 @@ use Rattle.calls.specs.Out.{startOf, outAt, unmarked, repeats}
 use Rattle.calls.specs.Release.{Released, releasedNone, releaseValid, releaseBlocks, giveBackAt}
 use Rattle.calls.specs.Take.{Took, takeCall, takeBlocks}
 use Rattle.calls.proofs.Out.{fault-marked, fault-foreign, passes}
-use Rattle.trace.specs.Words.{ownerAt, known}
+use Rattle.trace.specs.Words.{ownerAt}
 use Rattle.trace.proofs.Refused.{give-zero}
 use Rattle.pool.specs.Stock.{stockMost, blank}
 use Rattle.pool.specs.Pool.{PoolAnswer, PoolRequest, hostIn, alloc, free, trim, refused, granted, trimmed, noBlock, freed, answered}
@@ -24,15 +25,15 @@ use Rattle.poolcalls.specs.Stock.{countIn, entryIn, blockIn}
 use Rattle.poolcalls.specs.Calls.{PoolReply, poolReply, codeOf, blockOut, countValid, topValid, grantedIn, stockedIn, bringOn, tookOn, allocOn, releasedOn, freedOn, freeOn, trimOn, requestOn}
 use Rattle.vigbuso.specs.Faults.{callFault, classFault, admits}
 use Rattle.vigbuso.specs.Pool.{poolOn, classOn, grantedOn, stockedOn}
-use Rattle.demands.specs.Ranges.{Use, strays}
+use Rattle.demands.specs.Ranges.{Use, formatIs, frontierFits, strays, fits}
 use Rattle.demands.specs.Reads.{takeReads, barren, markReads, releaseReads, stockReads, topReads}
 use Rattle.demands.specs.Refusals.{Row, firstNumber}
-use Rattle.demands.specs.PoolRefusals.{poolEarly, allocTable, freeTable, trimTable, bookTable, queryEarly, grantedTable, stockedTable, PoolDemand1}
+use Rattle.demands.specs.PoolRefusals.{poolEarly, allocTable, freeTable, trimTable, queryEarly, grantedTable, stockedTable, classTable, OwnedBy, PoolDemand1}
 use Rattle.demands.proofs.Ranges.{fits-append, number-13, take-strays, top-strays, release-strays}
 use Rattle.demands.proofs.RefusalsLaws.{Ends, ends, turn, unless, book-turn, chain}
 use Rattle.demands.proofs.RefusalsCalls.{take-row, last-code}
 use Rattle.demands.proofs.Refusals.{refuses, digit-one}
-use Rattle.demands.proofs.PoolQuery.{granted-class}
+use Rattle.demands.proofs.PoolQuery.{owner-number, granted-class}
 
 abbrev turned : List ℕ → ℕ → PoolReply
 turned b k = poolReply (refused k) b
@@ -120,67 +121,76 @@ take-is : (n : ℕ) (b : List ℕ) (c h : ℕ) → takeCall n b c (shapeOf c) h 
 unfolding takeCall
 take-is n b c h = rw (le-ltb 64 (shapeOf c .batch) (shape-sound c .limited))
 
+-- FORMAT's row is its test
+format-and : (b : List ℕ) (us : List Use) → strays b (formatIs ∷ us) ≡ not (formatValid b && fits b us)
+unfolding strays fits formatValid
+format-and b us = refl
+
+format-strays : (b : List ℕ) → strays b (formatIs ∷ []) ≡ not (formatValid b)
+unfolding fits
+format-strays b = format-and b [] ∙ ap not (and-true (formatValid b))
+
 alloc-row : (b : List ℕ) (c h : ℕ)
-    → Rows b ((13, cond (eqb (countIn b c) 0) (strays b (takeReads b c (shapeOf c)) || barren b c (shapeOf c)) (strays b (topReads b c))) ∷ []) (allocOn (get b (arena size)) b c h)
+    → Rows b ((13, cond (eqb (countIn b c) 0) (strays b (takeReads b (poolId c) (shapeOf (poolId c))) || barren b (poolId c) (shapeOf (poolId c))) (strays b (topReads b c))) ∷ []) (allocOn (get b (arena size)) b c h)
 unfolding allocOn
 alloc-row b c h =
     let n = get b (arena size) in
     by-cases (eqb (countIn b c) 0)
-    (λ e. rw (e, ← (take-strays b c (shapeOf c)), take-is n b c h) (took-rows b blank c _ _ (take-row n b c (shapeOf c) h blank)))
-    (λ e. rw (e, ← (top-strays b c (shapeOf c))) (unless _ _ (topValid n b c) 13 _ _ _ refl refl λ u. ends _ _ _ refl))
+    (λ e. rw (e, ← (take-strays b (poolId c) (shapeOf (poolId c))), take-is n b (poolId c) h) (took-rows b blank c _ _ (take-row n b (poolId c) (shapeOf (poolId c)) h blank)))
+    (λ e. rw (e, ← (top-strays b c)) (unless _ _ (topValid n b c) 13 _ _ _ refl refl λ u. ends _ _ _ refl))
 
 -- ---- free
 module _ (b : List ℕ) (c h w : ℕ) where
   abbrev sh : Shape
-  sh = shapeOf c
+  sh = shapeOf (poolId c)
 
   abbrev length₀ : ℕ
   length₀ = get b (arena size)
 
   abbrev marks : List Use
-  marks = markReads b c sh (w ∷ [])
+  marks = markReads b (poolId c) sh (w ∷ [])
 
   abbrev backs : List Use
-  backs = releaseReads b c sh 1 (startOf b w)
+  backs = releaseReads b (poolId c) sh 1 (startOf b w)
 
-  full-strays : strays b (stockReads c ++ (marks ++ backs)) ≡ not (countValid b c && (unmarked length₀ b c sh (w ∷ []) && releaseValid length₀ b c sh 1 (startOf b w)))
+  full-strays : strays b (stockReads c ++ (marks ++ backs)) ≡ not (countValid b c && (unmarked length₀ b (poolId c) sh (w ∷ []) && releaseValid length₀ b (poolId c) sh 1 (startOf b w)))
   unfolding strays
   full-strays =
       ap not
       (fits-append b (stockReads c) (marks ++ backs)
-      ∙ ap₂ (λ (s t : Bool). s && t) (sym (number-13 b .stock c)) (fits-append b marks backs ∙ ap₂ (λ (s t : Bool). s && t) (sym (number-13 b .marks c sh (w ∷ []))) (sym (number-13 b .release c sh 1 (startOf b w)))))
+      ∙ ap₂ (λ (s t : Bool). s && t) (sym (number-13 b .stock c)) (fits-append b marks backs ∙ ap₂ (λ (s t : Bool). s && t) (sym (number-13 b .marks (poolId c) sh (w ∷ []))) (sym (number-13 b .release (poolId c) sh 1 (startOf b w)))))
 
-  top-marks : strays b (topReads b c ++ marks) ≡ not (topValid length₀ b c && unmarked length₀ b c sh (w ∷ []))
+  top-marks : strays b (topReads b c ++ marks) ≡ not (topValid length₀ b c && unmarked length₀ b (poolId c) sh (w ∷ []))
   unfolding strays
-  top-marks = ap not (fits-append b (topReads b c) marks ∙ ap₂ (λ (s t : Bool). s && t) (sym (number-13 b .top c)) (sym (number-13 b .marks c sh (w ∷ []))))
+  top-marks = ap not (fits-append b (topReads b c) marks ∙ ap₂ (λ (s t : Bool). s && t) (sym (number-13 b .top c)) (sym (number-13 b .marks (poolId c) sh (w ∷ []))))
 
-  module _ (kd : ofKind (sh .kind) w ≡ true) (o : outAt length₀ b c sh w ≡ true) where
+  module _ (kd : ofKind (sh .kind) w ≡ true) (o : outAt length₀ b (poolId c) sh w ≡ true) where
     abbrev back : Released
-    back = releaseBlocks length₀ b c sh h (w ∷ [])
+    back = releaseBlocks length₀ b (poolId c) sh h (w ∷ [])
 
-    full-row : Rows b ((13, not (countValid b c && (unmarked length₀ b c sh (w ∷ []) && releaseValid length₀ b c sh 1 (startOf b w)))) ∷ []) (cond (countValid b c) (releasedOn freed (back .book) back) (turned b 13))
+    full-row : Rows b ((13, not (countValid b c && (unmarked length₀ b (poolId c) sh (w ∷ []) && releaseValid length₀ b (poolId c) sh 1 (startOf b w)))) ∷ []) (cond (countValid b c) (releasedOn freed (back .book) back) (turned b 13))
     full-row =
         by-cases (countValid b c)
-        (λ e. by-cases (unmarked length₀ b c sh (w ∷ []))
-        (λ u. by-cases (releaseValid length₀ b c sh 1 (startOf b w))
-        (λ f. rw (e, u, f, gave-done length₀ b c sh h w kd freed (back .book) (one-done length₀ b c sh h w kd u o f)) (record { number = refl; kept = λ d. absurd (d refl) }))
-        (λ f. rw (e, u, f, gave-none length₀ b c sh h w kd freed (back .book) 13 refl (one-invalid length₀ b c sh h w kd u o f)) (record { number = refl; kept = λ d. refl })))
-        (λ u. rw (e, u, gave-none length₀ b c sh h w kd freed (back .book) 13 refl (one-marked length₀ b c sh h w kd u)) (record { number = refl; kept = λ d. refl })))
+        (λ e. by-cases (unmarked length₀ b (poolId c) sh (w ∷ []))
+        (λ u. by-cases (releaseValid length₀ b (poolId c) sh 1 (startOf b w))
+        (λ f. rw (e, u, f, gave-done length₀ b (poolId c) sh h w kd freed (back .book) (one-done length₀ b (poolId c) sh h w kd u o f)) (record { number = refl; kept = λ d. absurd (d refl) }))
+        (λ f. rw (e, u, f, gave-none length₀ b (poolId c) sh h w kd freed (back .book) 13 refl (one-invalid length₀ b (poolId c) sh h w kd u o f)) (record { number = refl; kept = λ d. refl })))
+        (λ u. rw (e, u, gave-none length₀ b (poolId c) sh h w kd freed (back .book) 13 refl (one-marked length₀ b (poolId c) sh h w kd u)) (record { number = refl; kept = λ d. refl })))
         (λ e. rw e (record { number = refl; kept = λ d. refl }))
 
-    freed-row : Rows b ((13, not (ltb (countIn b c) (stockMost c)) && strays b (stockReads c ++ (marks ++ backs))) ∷ []) (freedOn length₀ b c h w)
+    freed-row : Rows b ((13, cond (ltb (countIn b c) (stockMost c)) (strays b (formatIs ∷ [])) (strays b (stockReads c ++ (marks ++ backs)))) ∷ []) (freedOn length₀ b c h w)
     unfolding freedOn
     freed-row =
         by-cases (ltb (countIn b c) (stockMost c))
-        (λ e. rw e (record { number = refl; kept = λ d. absurd (d refl) }))
+        (λ e. rw (e, format-strays b) (unless _ _ (formatValid b) 13 _ _ _ refl refl λ u. ends _ _ _ refl))
         (λ e. rw (e, full-strays) full-row)
 
-  free-row : Rows b ((9, not (ofKind (sh .kind) w)) ∷ (10, not (grantedIn length₀ b c w)) ∷ (13, not (ltb (countIn b c) (stockMost c)) && strays b (stockReads c ++ (marks ++ backs))) ∷ []) (freeOn length₀ b c h w)
+  free-row : Rows b ((9, not (ofKind (sh .kind) w)) ∷ (10, not (grantedIn length₀ b c w)) ∷ (13, cond (ltb (countIn b c) (stockMost c)) (strays b (formatIs ∷ [])) (strays b (stockReads c ++ (marks ++ backs)))) ∷ []) (freeOn length₀ b c h w)
   unfolding freeOn
   free-row =
       turn _ _ (not (ofKind (sh .kind) w)) 9 _ _ _ refl refl λ k.
       turn _ _ (not (grantedIn length₀ b c w)) 10 _ _ _ refl refl λ g.
-      freed-row (not-false (ofKind (sh .kind) w) k) (and-left (outAt length₀ b c sh w) _ (not-false (grantedIn length₀ b c w) g))
+      freed-row (not-false (ofKind (sh .kind) w) k) (and-left (outAt length₀ b (poolId c) sh w) _ (not-false (grantedIn length₀ b c w) g))
 
 -- ---- trim
 module _ (b : List ℕ) (c h : ℕ) (low : get b (arena size) ≤ maxPages) where
@@ -190,32 +200,38 @@ module _ (b : List ℕ) (c h : ℕ) (low : get b (arena size) ≤ maxPages) wher
   abbrev n : ℕ
   n = get b (arena size)
 
-  top-kind : topValid n b c ≡ true → ofKind (shapeOf c .kind) top ≡ true
+  abbrev sh₁ : Shape
+  sh₁ = shapeOf (poolId c)
+
+  top-kind : topValid n b c ≡ true → ofKind (sh₁ .kind) top ≡ true
   unfolding topValid ofKind
   top-kind t =
       let e = entryIn b c (countIn b c - 1) in
-      let u : e < 4096 * n = ltb-true e (4096 * n) (and-right (countValid b c) _ t) in
-      eq-eqb (kindOf top) (shapeOf c .kind) (omega arith)
+      let u : e + sh₁ .block ≤ 4096 * n = leb-true (e + sh₁ .block) (4096 * n) (and-right (countValid b c) _ (and-right (formatValid b) _ t)) in
+      eq-eqb (kindOf top) (sh₁ .kind) (omega arith)
 
   some-row : eqb (countIn b c) 0 ≡ false
-      → Rows b ((13, not (topValid n b c && unmarked n b c (shapeOf c) (top ∷ []))) ∷ (10, not (outAt n b c (shapeOf c) top)) ∷ (13, not (releaseValid n b c (shapeOf c) 1 (startOf b top))) ∷ []) (trimOn n b c h)
+      → Rows b ((13, not (topValid n b c && unmarked n b (poolId c) sh₁ (top ∷ []))) ∷ (10, not (outAt n b (poolId c) sh₁ top)) ∷ (13, not (releaseValid n b (poolId c) sh₁ 1 (startOf b top))) ∷ []) (trimOn n b c h)
   unfolding trimOn
   some-row e =
       by-cases (topValid n b c)
-      (λ t. rw (e, t) (back-rows n b c (shapeOf c) h top (top-kind t) (trimmed top) _ refl))
+      (λ t. rw (e, t) (back-rows n b (poolId c) sh₁ h top (top-kind t) (trimmed top) _ refl))
       (λ t. rw (e, t) (record { number = refl; kept = λ d. refl }))
 
-  bare-reply : eqb (countIn b c) 0 ≡ true → trimOn n b c h ≡ poolReply noBlock b
+  bare-row : eqb (countIn b c) 0 ≡ true → Rows b ((13, not (formatValid b)) ∷ (10, false) ∷ (13, false) ∷ []) (trimOn n b c h)
   unfolding trimOn
-  bare-reply e = rw e
+  bare-row e =
+      by-cases (formatValid b)
+      (λ f. rw (e, f) (record { number = refl; kept = λ d. absurd (d refl) }))
+      (λ f. rw (e, f) (record { number = refl; kept = λ d. refl }))
 
   trim-row : (let some = not (eqb (countIn b c) 0) in
-      Rows b ((13, some && strays b (topReads b c ++ markReads b c (shapeOf c) (top ∷ []))) ∷ (10, some && not (outAt n b c (shapeOf c) top)) ∷ (13, some && strays b (releaseReads b c (shapeOf c) 1 (startOf b top))) ∷ [])
+      Rows b ((13, cond some (strays b (topReads b c ++ markReads b (poolId c) sh₁ (top ∷ []))) (strays b (formatIs ∷ []))) ∷ (10, some && not (outAt n b (poolId c) sh₁ top)) ∷ (13, some && strays b (releaseReads b (poolId c) sh₁ 1 (startOf b top))) ∷ [])
       (trimOn n b c h))
   trim-row =
       by-cases (eqb (countIn b c) 0)
-      (λ e. rw (e, bare-reply e) (record { number = refl; kept = λ d. absurd (d refl) }))
-      (λ e. rw (e, top-marks b c h top, ← (release-strays b c (shapeOf c) 1 (startOf b top))) (some-row e))
+      (λ e. rw (e, format-strays b) (bare-row e))
+      (λ e. rw (e, top-marks b c h top, ← (release-strays b (poolId c) sh₁ 1 (startOf b top))) (some-row e))
 
 -- ---- numbers 1 to 4
 early : (b : List ℕ) (c : ℕ) (x : PoolRequest) (rows : List Row) → Rows b rows (requestOn (get b (arena size)) b c x) → Rows b (poolEarly b c (hostIn x) ++ rows) (poolOn b c x)
@@ -280,28 +296,36 @@ module _ (b : List ℕ) (c : ℕ) (rows : List Row) where
       let l = ltb-true c classCount (and-right (eqb (metaFault b) 0) _ (k .admitted)) in
       sym query-first ∙ rw (and-left (eqb (metaFault b) 0) _ (k .admitted), lt-leb classCount c l) (k .rest)
 
--- two tests, or one, that both pass
-both-pass : (s t : Bool) → firstNumber ((9, not s) ∷ (10, not t) ∷ []) ≡ 0 → (s && t) ≡ true
-both-pass true true z = refl
-both-pass true false z = absurd (omega arith)
-both-pass false t z = absurd (omega arith)
+-- tests that all pass
+all-pass : (s t f : Bool) → firstNumber ((9, not s) ∷ (10, not t) ∷ (13, not f) ∷ []) ≡ 0 → (f && (s && t)) ≡ true
+all-pass true true true z = refl
+all-pass true true false z = absurd (omega arith)
+all-pass true false f z = absurd (omega arith)
+all-pass false t f z = absurd (omega arith)
 
-pass-both : (s t : Bool) → (s && t) ≡ true → firstNumber ((9, not s) ∷ (10, not t) ∷ []) ≡ 0
-pass-both true true z = refl
-pass-both true false z = cc
-pass-both false t z = cc
+pass-all : (s t f : Bool) → (f && (s && t)) ≡ true → firstNumber ((9, not s) ∷ (10, not t) ∷ (13, not f) ∷ []) ≡ 0
+pass-all true true true z = refl
+pass-all s t false z = cc
+pass-all true false true z = cc
+pass-all false t true z = cc
 
 one-pass : (t : Bool) → firstNumber ((13, not t) ∷ []) ≡ 0 → t ≡ true
 one-pass true z = refl
 one-pass false z = absurd (omega arith)
 
 module _ (b : List ℕ) (c w : ℕ) where
+  abbrev kinds : Bool
+  kinds = ofKind (shapeOf (poolId c) .kind) w
+
+  abbrev grants : Bool
+  grants = grantedIn (get b (arena size)) b c w
+
   abbrev asks : List Row
-  asks = (9, not (ofKind (shapeOf c .kind) w)) ∷ (10, not (grantedIn (get b (arena size)) b c w)) ∷ []
+  asks = (9, not kinds) ∷ (10, not grants) ∷ (13, strays b (formatIs ∷ [])) ∷ []
 
   granted-yes : firstNumber (grantedTable b c w) ≡ 0 → grantedOn b c w ≡ true
   unfolding grantedOn
-  granted-yes z = let k = clear b c asks z in rw (k .admitted) (both-pass (ofKind (shapeOf c .kind) w) (grantedIn (get b (arena size)) b c w) (k .rest))
+  granted-yes z = let k = clear b c asks z in rw (k .admitted) (all-pass kinds grants (formatValid b) (rw (format-strays b) at (k .rest)))
 
   yes-granted : grantedOn b c w ≡ true → firstNumber (grantedTable b c w) ≡ 0
   unfolding grantedOn
@@ -309,62 +333,99 @@ module _ (b : List ℕ) (c w : ℕ) where
       cleared b c asks
       (record {
         admitted = and-left (admits b c) _ g;
-        rest = pass-both (ofKind (shapeOf c .kind) w) (grantedIn (get b (arena size)) b c w) (and-right (admits b c) _ g);
+        rest = rw (format-strays b) (pass-all kinds grants (formatValid b) (and-right (admits b c) _ g));
       })
 
 module _ (b : List ℕ) (c : ℕ) where
-  count-strays : strays b (stockReads c) ≡ not (countValid b c)
-  unfolding strays
-  count-strays = ap not (sym (number-13 b .stock c))
+  count-strays : strays b (formatIs ∷ stockReads c) ≡ not (formatValid b && countValid b c)
+  count-strays = format-and b (stockReads c) ∙ ap (λ (t : Bool). not (formatValid b && t)) (sym (number-13 b .stock c))
 
   stock-counted : firstNumber (stockedTable b c) ≡ 0 → stockedOn b c ≡ countIn b c
   unfolding stockedOn stockedIn
-  stock-counted e = let k = clear b c ((13, strays b (stockReads c)) ∷ []) e in rw (k .admitted, one-pass (countValid b c) (rw count-strays at (k .rest)))
+  stock-counted e = let k = clear b c ((13, strays b (formatIs ∷ stockReads c)) ∷ []) e in rw (k .admitted, one-pass (formatValid b && countValid b c) (rw count-strays at (k .rest)))
 
   stock-none : (firstNumber (stockedTable b c) ≡ 0 → ⊥) → stockedOn b c ≡ 0
   unfolding stockedOn stockedIn
   stock-none d =
       by-cases (admits b c)
-      (λ a. by-cases (countValid b c)
-      (λ f. absurd (d (cleared b c ((13, strays b (stockReads c)) ∷ []) (record { admitted = a; rest = rw (count-strays, f) }))))
+      (λ a. by-cases (formatValid b && countValid b c)
+      (λ f. absurd (d (cleared b c ((13, strays b (formatIs ∷ stockReads c)) ∷ []) (record { admitted = a; rest = rw (count-strays, f) }))))
       (λ f. rw (a, f)))
       (λ a. rw a)
 
+-- ---- the class of a page
+-- the number of an id that has a row is that of a class, and it is k exactly for the heap's class and the pool's
+number-low : (c : ℕ) → c < classRows → numberOf c < classCount
+number-low c h = by-cases (ltb c classCount) (λ e. rw e (ltb-true c classCount e)) (λ e. rw e (let z = ltb-false c classCount e in omega arith))
+
+number-is : (c k : ℕ) → numberOf c ≡ k → c < classRows → (c ≡ k) ⊎ (c ≡ poolId k)
+number-is c k e h = by-cases (ltb c classCount) (λ t. inl (rw t at e)) (λ t. inr (let z : c - classCount ≡ k = rw t at e in let y = ltb-false c classCount t in omega arith))
+
 module _ (b : List ℕ) (w : ℕ) where
+  abbrev m : ℕ
+  m = get b (arena frontier)
+
+  abbrev made : Bool
+  made = headValid (get b (arena size)) b
+
   abbrev k : ℕ
-  k = ownerAt (get b (arena size)) b w
+  k = ownerAt m b w
+
+  head-strays : strays b (formatIs ∷ frontierFits ∷ []) ≡ not made
+  unfolding headValid fits
+  head-strays = format-and b (frontierFits ∷ []) ∙ ap (λ (t : Bool). not (formatValid b && t)) (and-true (leb m (get b (arena size))))
 
   class-low : classOn b w ≤ classCount
   unfolding classOn
   class-low =
-      by-cases (eqb (metaFault b) 0)
-      (λ e. by-cases (known k) (λ t. rw (e, t) (omega (arith, leb-true k classCount (and-right (leb 1 k) _ t)))) (λ t. rw (e, t) (omega arith)))
+      by-cases (eqb (metaFault b) 0 && made)
+      (λ e. by-cases (leb 1 k && leb k classRows)
+      (λ t. let l = leb-true 1 k (and-left (leb 1 k) _ t) in rw (e, t) (omega (arith, number-low (k - 1) (omega (arith, leb-true k classRows (and-right (leb 1 k) _ t))))))
+      (λ t. rw (e, t) (omega arith)))
       (λ e. rw e (omega arith))
 
-  book-first : cond (eqb (metaFault b) 0) 0 (metaFault b) ≡ firstNumber (bookTable b)
+  book-first : cond (eqb (metaFault b) 0) (firstNumber ((13, strays b (formatIs ∷ frontierFits ∷ [])) ∷ [])) (metaFault b) ≡ firstNumber (classTable b)
   unfolding metaFault
-  book-first = book-turn {R = ℕ} (λ x. x) (λ x. Unit {0}) [] (λ x. x) 0 (λ x. refl) (λ x. tt) (record { number = refl; kept = λ d. tt }) (get b (arena size)) b .number
+  book-first =
+      book-turn {R = ℕ} (λ x. x) (λ x. Unit {0}) ((13, strays b (formatIs ∷ frontierFits ∷ [])) ∷ []) (λ x. x) _ (λ x. refl) (λ x. tt) (record { number = refl; kept = λ d. tt }) (get b (arena size)) b .number
 
-  class-none : (firstNumber (bookTable b) ≡ 0 → ⊥) → classOn b w ≡ classCount
+  class-none : (firstNumber (classTable b) ≡ 0 → ⊥) → classOn b w ≡ classCount
   unfolding classOn
-  class-none d = by-cases (eqb (metaFault b) 0) (λ e. absurd (d (sym book-first ∙ rw e))) (λ e. rw e)
+  class-none d =
+      by-cases (eqb (metaFault b) 0)
+      (λ e. by-cases made (λ f. absurd (d (sym book-first ∙ rw (e, head-strays, f)))) (λ f. rw (e, f)))
+      (λ e. rw e)
 
-  class-owned : (c : ℕ) → admits b c ≡ true → (classOn b w ≡ c) ↔ ((pageAt w < get b (arena size)) × (get b (page owner (pageAt w)) ≡ suc c))
-  unfolding classOn admits ownerAt
-  class-owned c a =
-      let n = get b (arena size) in
-      let fit = and-left (eqb (metaFault b) 0) _ a in
-      let low = ltb-true c classCount (and-right (eqb (metaFault b) 0) _ a) in (
-        (λ z. by-cases (ltb (pageAt w) n)
-            (λ t.
-            let o = get b (page owner (pageAt w)) in (
-              ltb-true (pageAt w) n t,
-              by-cases (known o)
-                  (λ u. let y : o - 1 ≡ c = rw (fit, t, u) at z in omega (arith, leb-true 1 o (and-left (leb 1 o) _ u)))
-                  (λ u. let y : classCount ≡ c = rw (fit, t, u) at z in absurd (omega arith)),
-            ))
-            (λ t. let y : classCount ≡ c = rw (fit, t) at z in absurd (omega arith))),
-        (λ p. rw (fit, lt-ltb (pageAt w) n (p .0), p .1, le-leb 1 (suc c) (omega arith), le-leb (suc c) classCount (omega arith)) (omega arith)),
+  pub class-fits : firstNumber (classTable b) ≡ 0 → (eqb (metaFault b) 0 ≡ true) × (made ≡ true)
+  class-fits z =
+      by-cases (eqb (metaFault b) 0)
+      (λ e. (e, one-pass made (rw (e, head-strays) at (book-first ∙ z))))
+      (λ e. absurd (eqb-false (metaFault b) 0 e (rw e at (book-first ∙ z))))
+
+  class-owned : (c : ℕ) → firstNumber (classTable b) ≡ 0 → c < classCount → (classOn b w ≡ c) ↔ OwnedBy b w c
+  unfolding classOn ownerAt
+  class-owned c f low =
+      let o = get b (page owner (pageAt w)) in
+      let fit = class-fits f .0 in
+      let form = class-fits f .1 in (
+        (λ z. by-cases (ltb (pageAt w) m)
+            (λ t. by-cases (leb 1 o && leb o classRows)
+            (λ r.
+            let some = leb-true 1 o (and-left (leb 1 o) _ r) in
+            let few = leb-true o classRows (and-right (leb 1 o) _ r) in
+            let y : numberOf (o - 1) ≡ c = rw (fit, form, t, r) at z in
+            record {
+              used = ltb-true (pageAt w) m t;
+              owner = elim (number-is (o - 1) c y (omega arith)) [ inl e ↦ inl (omega arith) | inr e ↦ inr (omega arith) ];
+            })
+            (λ r. let y : classCount ≡ c = rw (fit, form, t, r) at z in absurd (omega arith)))
+            (λ t. let y : classCount ≡ c = rw (fit, form, t) at z in absurd (omega arith))),
+        (λ p.
+            let t = lt-ltb (pageAt w) m (p .used) in
+            elim (p .owner) [
+              | inl e ↦ rw (fit, form, t, e, le-leb 1 (suc c) (omega arith), le-leb (suc c) classRows (omega arith)) (owner-number c c (rw (lt-ltb c classCount low)))
+              | inr e ↦ rw (fit, form, t, e, le-leb 1 (suc (poolId c)) (omega arith), le-leb (suc (poolId c)) classRows (omega arith)) (owner-number (poolId c) c (number-pool c))
+            ]),
       )
 
 -- ---- the demand
@@ -379,8 +440,8 @@ pool-demand-1 = record {
   stocked = λ b c r e. record { counted = λ z. e ∙ stock-counted b c z; none = λ d. e ∙ stock-none b c d };
   class = λ b w r e. record {
     low = rw e (class-low b w);
-    granted = λ c z. e ∙ granted-class b c w (granted-yes b c w z);
-    owned = λ c z. rw e (class-owned b w c (clear b c [] z .admitted));
+    granted = λ c f z. e ∙ granted-class b c w (class-fits b w f .1) (granted-yes b c w z);
+    owned = λ c z low. rw e (class-owned b w c z low);
     none = λ d. e ∙ class-none b w d;
   };
   trim = λ b c h r b′ w w′ e. refuses _ _ _ _ (trim-table b c h) _ r refl (e .code) λ d s. (e .book ∙ s, e .block ∙ block-kept (poolOn b c (trim h) .answer) w d);

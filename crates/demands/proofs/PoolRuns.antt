@@ -1,4 +1,4 @@
--- A pool history over the exported functions is the model's.
+-- A mixed history over the exported functions, from an opening, is the model's.
 --     run-is           its answers are the model's
 --     pool-rep         the book that it leaves stands for the model's pool
 --     observed-is      the calls with their answers are the model's events without the runs
@@ -12,8 +12,8 @@ use Rattle.fields.specs.Field.{words}
 use Rattle.fields.specs.Ranges.{maxPages}
 use Rattle.model.specs.History.{Event}
 use Rattle.arena.specs.Open.{opened}
-use Rattle.pool.specs.Pool.{Pool, newPool, PoolCall, PoolAnswer, PoolRequest, hostIn, to, direct, callBy, poolStep}
-use Rattle.pool.specs.Observed.{observed, observedOf, poolEvents, poolEventsFrom, poolAfter}
+use Rattle.pool.specs.Pool.{Pool, newPool, PoolCall, PoolAnswer, PoolRequest, hostIn, to, heap, poolStep}
+use Rattle.pool.specs.Observed.{PoolEvent, observed, observedOf, poolEvents, poolEventsFrom, poolAfter}
 use Rattle.pool.proofs.Conserved.{pool-append}
 use Rattle.poolcalls.specs.Calls.{PoolReply}
 use Rattle.vigbuso.specs.Direct.{openOn}
@@ -22,7 +22,7 @@ use Rattle.poolrefinement.specs.way.Represents.{PoolRep}
 use Rattle.poolrefinement.specs.Run.{askOn, onCall, poolAnswersFrom, bookFrom}
 use Rattle.poolrefinement.proofs.Runs.{opened-pool, call-agrees, pool-runs}
 use Rattle.demands.specs.Run.{Opens}
-use Rattle.demands.specs.Pool.{poolCall, poolRun, poolBook, recorded, poolObserved}
+use Rattle.demands.specs.Mixed.{poolCall, recorded}
 use Rattle.demands.proofs.Calls.{room, opened-by, call-is, class-turned, class-fits, class-none}
 use Rattle.demands.proofs.Observed.{bare}
 
@@ -41,7 +41,20 @@ module _ (n : ℕ) (some-pages : 1 ≤ n) (few-pages : n ≤ maxPages) (b : List
   one-is : (x : PoolCall) → poolCall b x ≡ onCall n b x
   unfolding poolCall onCall
   one-is (to c x) = ask-is c x
-  one-is (direct d) = rw (call-is n b some-pages few-pages (P .heap) (R .heap) (callBy d))
+  one-is (heap x) = rw (call-is n b some-pages few-pages (P .heap) (R .heap) x)
+
+-- ---- from an opening: what is answered, the book that is left, and what is told
+abbrev pub openRun : ℕ → List ℕ → List ℕ → List PoolCall → List PoolAnswer
+openRun n rows b xs = poolAnswersFrom poolCall (openOn b n rows .book) xs
+
+abbrev pub openBook : ℕ → List ℕ → List ℕ → List PoolCall → List ℕ
+openBook n rows b xs = bookFrom poolCall (openOn b n rows .book) xs
+
+abbrev pub openRecorded : ℕ → List ℕ → List ℕ → List PoolCall → List PoolEvent
+openRecorded n rows b xs = recorded xs (openRun n rows b xs)
+
+abbrev pub openObserved : ℕ → List ℕ → List ℕ → List PoolCall → List Event
+openObserved n rows b xs = observedOf (openRecorded n rows b xs)
 
 -- ---- in turn
 record Same (n : ℕ) (b : List ℕ) (xs : List PoolCall) : Type 0 where
@@ -73,13 +86,13 @@ module _ (n : ℕ) (rows b : List ℕ) (o : Opens n rows b) (xs : List PoolCall)
       let r = room n rows b o in
       subst (λ (d : List ℕ). Same n d xs) (sym (opened-by n rows b o)) (same n (r .some-pages) (r .few-pages) (rulesOf rows) xs [] (opened n (rulesOf rows) b) (opened-pool n (rulesOf rows) b long fit))
 
-  pub run-is : poolRun n rows b xs ≡ map (λ v. v .answer) (poolEvents n (rulesOf rows) xs)
+  pub run-is : openRun n rows b xs ≡ map (λ v. v .answer) (poolEvents n (rulesOf rows) xs)
   run-is =
       whole .answers
       ∙ ap (λ (d : List ℕ). poolAnswersFrom (onCall n) d xs) (opened-by n rows b o)
       ∙ pool-runs n (room n rows b o .few-pages) (rulesOf rows) fit b long xs .answers
 
-  pub pool-rep : PoolRep n (poolBook n rows b xs) (poolAfter n (rulesOf rows) xs)
+  pub pool-rep : PoolRep n (openBook n rows b xs) (poolAfter n (rulesOf rows) xs)
   pool-rep =
       subst (λ (d : List ℕ). PoolRep n d (poolAfter n (rulesOf rows) xs)) (sym (whole .book ∙ ap (λ (d : List ℕ). bookFrom (onCall n) d xs) (opened-by n rows b o)))
       (pool-runs n (room n rows b o .few-pages) (rulesOf rows) fit b long xs .book)
@@ -91,5 +104,5 @@ recorded-is n P (x ∷ xs) [] e = cc
 recorded-is n P (x ∷ xs) (a ∷ zs) e =
     ap₂ (λ (a : PoolAnswer) (vs : List Event). observed (record { call = x; answer = a; run = none }) ∷ vs) (head-eq-of-cons-eq e) (recorded-is n (poolStep n P x .pool) xs zs (tail-eq-of-cons-eq e))
 
-pub observed-is : (n : ℕ) (rows b : List ℕ) → Opens n rows b → (xs : List PoolCall) → poolObserved n rows b xs ≡ bare (observedOf (poolEvents n (rulesOf rows) xs))
-observed-is n rows b o xs = recorded-is n (newPool (rulesOf rows)) xs (poolRun n rows b xs) (run-is n rows b o xs)
+pub observed-is : (n : ℕ) (rows b : List ℕ) → Opens n rows b → (xs : List PoolCall) → openObserved n rows b xs ≡ bare (observedOf (poolEvents n (rulesOf rows) xs))
+observed-is n rows b o xs = recorded-is n (newPool (rulesOf rows)) xs (openRun n rows b xs) (run-is n rows b o xs)

@@ -6,7 +6,8 @@ use Rattle.words.specs.Limits.{classRows}
 use Rattle.words.specs.Word.{countOf, pageOf}
 use Rattle.classes.specs.declared.Shape.{Shape}
 use Rattle.fields.specs.Field.{arena, class, hole, page, size, frontier, holes, holePages, held, start, pages, partial, empty, cold, free, carved, listed, get}
-use Rattle.fields.specs.Ranges.{maxParked}
+use Rattle.fields.specs.Ranges.{maxParked, formatValid, headValid}
+use Rattle.fields.proofs.Sound.{head-frontier}
 use Rattle.model.specs.Destination.{isArena}
 use Rattle.arena.specs.Load.{loadHoles}
 use Rattle.arena.specs.Valid.{recordValid, holeEndsValid, holesEndValid, holeValid, holesValid, commitValid, giveValid, growGives, growValid, countsValid, allCountsValid, reportValid}
@@ -21,7 +22,7 @@ use Rattle.calls.specs.Take.{pageReady, sound, walk, parkValid}
 use Rattle.calls.specs.Out.{startOf, outs, clean, unmarked}
 use Rattle.calls.specs.Release.{pageValid, rowValid, destinationAt, destinationValid, releaseValid}
 use Rattle.calls.specs.Chunks.{pagesGiven, chunksValid}
-use Rattle.demands.specs.Ranges.{Link, partialOf, emptyOf, coldOf, nextOf, prevOf, linkField, Use, stateKnown, frontierFits, holesFew, holePagesFew, heldFits, holeEnds, code, visited, emptyFew, emptyTaken, coldFew, coldTaken, ownerIs, firstIs, prevIs, listedFlag, listedYes, listedNo, freeFits, markClear, freeWith, carvedFits, virginFlag, inRange, fits, strays, emptyLimited, coldLimited}
+use Rattle.demands.specs.Ranges.{Link, partialOf, emptyOf, coldOf, nextOf, prevOf, linkField, Use, stateKnown, formatIs, frontierFits, holesFew, holePagesFew, heldFits, holeEnds, code, visited, emptyFew, emptyTaken, coldFew, coldTaken, ownerIs, firstIs, prevIs, listedFlag, listedYes, listedNo, freeFits, markClear, freeWith, carvedFits, virginFlag, inRange, fits, strays, emptyLimited, coldLimited}
 use Rattle.poolcalls.specs.Calls.{countValid, topValid}
 use Rattle.demands.specs.Number13.{takeValid, Number13}
 use Rattle.demands.specs.Reads.{countReads, recordReads, holeReads, commitReads, giveReads, parkedReads, reportReads, runReads, entryReads, pageReads, walkReads, walkVisits, parkReads, takeReads, takeVisits, supply, yields, yieldAll, barren, markReads, backReads, rowReads, releaseReads, backsReads, chunksReads, neighboursReads, givenReads, growReads, stockReads, topReads}
@@ -59,13 +60,13 @@ neighbours-as q m f r =
     (λ e. let l = leb-true (q + m) f e in rw (e, le-leb m f (omega arith)) (simp and-assoc))
     (λ e. rw (e, and-false (leb 1 m), and-false (leb 1 m && leb m f)))
 
-give-as : (s f h p l m r : Bool) → ((s && (f && (h && (p && l)))) && (m && r)) ≡ ((s && (f && (h && (p && ((m && l) && true))))) && r)
-give-as s f h p l m r = rw (and-true (m && l)) (simp sorts)
+give-as : (s v f h p l m r : Bool) → ((s && ((v && f) && (h && (p && l)))) && (m && r)) ≡ ((s && (v && (f && (h && (p && ((m && l) && true)))))) && r)
+give-as s v f h p l m r = rw (and-true (m && l)) (simp sorts)
 
 module _ (b : List ℕ) where
   record-ranges : recordValid (get b (arena size)) b ≡ fits b recordReads
-  unfolding recordValid fits recordReads countReads
-  record-ranges = rw (and-true (inRange b heldFits))
+  unfolding recordValid headValid formatValid fits recordReads countReads
+  record-ranges = rw (and-true (inRange b heldFits), and-assoc (inRange b formatIs) (inRange b frontierFits))
 
   holes-ranges : (i k : ℕ) → every (holeValid (get b (arena holePages)) (get b (arena frontier))) (loadHoles b i k) ≡ fits b (holeReads i k)
   unfolding loadHoles holeReads fits
@@ -82,9 +83,9 @@ module _ (b : List ℕ) where
   neighbours-ranges i (suc k) = rw (neighbours-ranges (suc i) k) (neighbours-as (get b (hole start i)) (get b (hole pages i)) (get b (arena frontier)) (fits b (neighboursReads (suc i) k)))
 
   given-as : (m : ℕ) (r : Bool) → (recordValid (get b (arena size)) b && (leb m (get b (arena held)) && r)) ≡ (fits b (givenReads m) && r)
-  unfolding recordValid fits givenReads countReads
+  unfolding recordValid headValid formatValid fits givenReads countReads
   given-as m r =
-      give-as (inRange b stateKnown) (inRange b frontierFits) (inRange b holesFew) (inRange b holePagesFew) (inRange b heldFits) (leb m (get b (arena held))) r
+      give-as (inRange b stateKnown) (inRange b formatIs) (inRange b frontierFits) (inRange b holesFew) (inRange b holePagesFew) (inRange b heldFits) (leb m (get b (arena held))) r
 
   give-ranges : (m : ℕ) → giveValid (get b (arena size)) b m ≡ fits b (giveReads b m)
   unfolding giveValid giveReads holesEndValid
@@ -138,9 +139,9 @@ module _ (b : List ℕ) (c : ℕ) (sh : Shape) where
   given-ranges true m = give-ranges b m
   given-ranges false m = fits-none b
 
-  first-use : (us : List Use) → fits b (frontierFits ∷ us) ≡ (leb (get b (arena frontier)) (get b (arena size)) && fits b us)
-  unfolding fits
-  first-use us = refl
+  first-use : (us : List Use) → fits b (formatIs ∷ frontierFits ∷ us) ≡ (headValid (get b (arena size)) b && fits b us)
+  unfolding fits headValid formatValid
+  first-use us = sym (and-assoc (inRange b formatIs) (inRange b frontierFits) (every (inRange b) us))
 
   release-ranges : (m q : ℕ) → releaseValid (get b (arena size)) b c sh m q ≡ fits b (releaseReads b c sh m q)
   unfolding releaseValid destinationValid releaseReads
@@ -291,19 +292,19 @@ module _ (b : List ℕ) (c : ℕ) (sh : Shape) where
         )
         (park-as (inRange b (code f)) (leb 1 (get b (class (stored p) c))) (leb (get b (class (stored p) c)) maxParked) (fits b (pageReads b c sh f (listedNo q) (sh .batch))) (yields b sh q) (inRange b (code (nextOf q))))
 
--- ---- the take's test: the frontier, then its source
+-- ---- the take's test: FORMAT and FRONTIER, then its source
 -- a code that is 0 is in its range
 none-fits : (v f : ℕ) → not (eqb v 0) ≡ false → leb v f ≡ true
 none-fits v f e = le-leb v f (omega (arith, eqb-true v 0 (by-cases (eqb v 0) (λ i. i) (λ i. let z : _≡_ {A = ℕ} 0 1 = cc in absurd (omega arith)))))
 
 module _ (b : List ℕ) (c : ℕ) (sh : Shape) where
-  source-ranges : leb (get b (arena frontier)) (get b (arena size)) ≡ true → takeValid (get b (arena size)) b c sh ≡ (fits b (takeReads b c sh) && yieldAll b c sh)
+  source-ranges : headValid (get b (arena size)) b ≡ true → takeValid (get b (arena size)) b c sh ≡ (fits b (takeReads b c sh) && yieldAll b c sh)
   unfolding takeValid takeReads yieldAll takeVisits
   source-ranges low =
       let n = get b (arena size) in
       let f = get b (arena frontier) in
-      let h = leb-true f n low in
-      rw (use-more b c sh frontierFits, low)
+      let h = head-frontier n b low in
+      rw (first-use b c sh, low)
       (by-cases (not (eqb (get b (class partial c)) 0))
       (λ e. rw (e, walk-ranges b c sh n h (sh .batch) (sh .batch) (partialOf c) 0))
       (λ e. rw (e, use-more b c sh (code (partialOf c)), none-fits (get b (class partial c)) f e)
@@ -316,7 +317,7 @@ module _ (b : List ℕ) (c : ℕ) (sh : Shape) where
 
   take-ranges : takeValid (get b (arena size)) b c sh ≡ (fits b (takeReads b c sh) && yieldAll b c sh)
   unfolding takeValid takeReads
-  take-ranges = by-cases (leb (get b (arena frontier)) (get b (arena size))) source-ranges (λ e. rw (use-more b c sh frontierFits, e))
+  take-ranges = by-cases (headValid (get b (arena size)) b) source-ranges (λ e. rw (first-use b c sh, e))
 
 -- ---- the pool
 module _ (b : List ℕ) (c : ℕ) where
@@ -325,7 +326,7 @@ module _ (b : List ℕ) (c : ℕ) where
   stock-ranges = rw and-true
 
   top-ranges : topValid (get b (arena size)) b c ≡ fits b (topReads b c)
-  unfolding topValid countValid fits topReads
+  unfolding topValid countValid formatValid fits topReads
   top-ranges = rw and-true
 
 -- ---- the table
@@ -378,6 +379,6 @@ module _ (b : List ℕ) where
     unfolding strays
     chunks-strays gs = ap not (chunks-ranges b c sh gs)
 
-    pub top-strays : not (topValid (get b (arena size)) b c) ≡ strays b (topReads b c)
-    unfolding strays
-    top-strays = ap not (top-ranges b c)
+  pub top-strays : (c : ℕ) → not (topValid (get b (arena size)) b c) ≡ strays b (topReads b c)
+  unfolding strays
+  top-strays c = ap not (top-ranges b c)

@@ -3,7 +3,7 @@
 --     .. -refuses         for each function
 --     demand-1            all of them, in one record
 --     refused-exactly     a call is refused exactly when a number of its table applies
-use Rattle.facts.proofs.Prelude.{ℕ, zero, suc, arith, Bool, true, false, cond, not, true≢false, List, [], _∷_, _↔_, Option, none, some, _≡_, refl}
+use Rattle.facts.proofs.Prelude.{ℕ, zero, suc, arith, Bool, true, false, cond, not, _&&_, and-true, true≢false, List, [], _∷_, _↔_, Option, none, some, _≡_, refl}
 use Rattle.facts.proofs.Prelude.{sym, ap, _∙_, eqb, leb, ltb, ltb-true, lt-leb, eqb-true, eqb-false, every, any, by-cases, and-left, and-right}
 use Rattle.words.specs.Host.{digit}
 use Rattle.classes.specs.Sizes.{smallSizes, mediumSizes}
@@ -11,7 +11,7 @@ use Rattle.classes.specs.Lookup.{firstFit}
 use Rattle.classes.proofs.Answers.{sized-small, sized-medium, sized-large}
 use Rattle.classes.proofs.Meaning.{small-first-fit, medium-first-fit, small-class, medium-class}
 use Rattle.fields.specs.Field.{arena, size, state, get}
-use Rattle.fields.specs.Ranges.{metaFault}
+use Rattle.fields.specs.Ranges.{metaFault, formatValid}
 use Rattle.model.specs.Arena.{contains, isReady}
 use Rattle.model.proofs.Reservation.{contained-exactly}
 use Rattle.plan.specs.Plan.{badPlan}
@@ -24,6 +24,7 @@ use Rattle.release.specs.Answer.{answerAs}
 use Rattle.vigbuso.specs.Direct.{firstOut, freshOut, grownOut, containsOn}
 use Rattle.vigbuso.specs.Blocks.{codeOut, countOut, virginOut, releaseCode, fateOut}
 use Rattle.demands.specs.Refusals.{Row, firstNumber, checkingOrder, inOrder, Refuses, OpenRefuses, CommitRefuses, GrowRefuses, GiveRefuses, ReportRefuses, TakeRefuses, ReleaseRefuses, ChunksRefuses, containsTable, ContainedIn, ContainsAnswers, SizeAnswers, Demand1, TableRefuses, GameRefuses, PlanRefuses, ListingRefuses}
+use Rattle.demands.specs.Ranges.{stateKnown, formatIs, strays, fits}
 use Rattle.demands.proofs.RefusalsLaws.{Ends, book-turn}
 use Rattle.demands.proofs.TraceRefusals.{trace-refuses}
 use Rattle.demands.proofs.RefusalsCalls.{open-table, commit-table, grow-table, give-table, report-table, take-table, release-table, chunks-table, rate-table, game-table, listing-table}
@@ -137,10 +138,19 @@ beyond-ready (suc zero) e = e
 beyond-ready (suc (suc s)) e = refl
 
 module _ (b : List ℕ) (o k : ℕ) where
-  -- the rows are those of the book's length, and of STATE's range
-  row-first : cond (eqb (metaFault b) 0) (cond (leb (get b (arena state)) 2) 0 13) (metaFault b) ≡ firstNumber (containsTable b)
+  -- the rows are those of the book's length, and of STATE's and FORMAT's ranges
+  abbrev inRanges : Bool
+  inRanges = leb (get b (arena state)) 2 && formatValid b
+
+  ranges-are : strays b (stateKnown ∷ formatIs ∷ []) ≡ not inRanges
+  unfolding strays fits formatValid
+  ranges-are = rw (and-true (formatValid b))
+
+  row-first : cond (eqb (metaFault b) 0) (cond inRanges 0 13) (metaFault b) ≡ firstNumber (containsTable b)
   unfolding metaFault
-  row-first = book-turn {R = ℕ} (λ x. x) (λ x. Unit {0}) ((13, not (leb (get b (arena state)) 2)) ∷ []) (λ x. x) _ (λ x. refl) (λ x. tt) (record { number = in-range (leb (get b (arena state)) 2); kept = λ d. tt }) (get b (arena size)) b .number
+  row-first =
+      rw ranges-are
+      (book-turn {R = ℕ} (λ x. x) (λ x. Unit {0}) ((13, not inRanges) ∷ []) (λ x. x) _ (λ x. refl) (λ x. tt) (record { number = in-range inRanges; kept = λ d. tt }) (get b (arena size)) b .number)
     where
       in-range : (t : Bool) → cond t 0 13 ≡ firstNumber ((13, not t) ∷ [])
       in-range true = refl
@@ -150,7 +160,9 @@ module _ (b : List ℕ) (o k : ℕ) where
   unfolding containsOn containsCall contains loadArena
   contains-no d =
       by-cases (eqb (metaFault b) 0)
-      (λ e. by-cases (leb (get b (arena state)) 2) (λ i. absurd (d (sym row-first ∙ rw (e, i)))) (λ i. rw (e, beyond-ready (get b (arena state)) i)))
+      (λ e. by-cases (formatValid b)
+      (λ f. by-cases (leb (get b (arena state)) 2) (λ i. absurd (d (sym row-first ∙ rw (e, i, f)))) (λ i. rw (e, f, beyond-ready (get b (arena state)) i)))
+      (λ f. rw (e, f)))
       (λ e. rw e)
 
   contains-yes : (containsOn b o k ≡ true) ↔ ContainedIn b o k
@@ -160,13 +172,16 @@ module _ (b : List ℕ) (o k : ℕ) where
       yes : containsOn b o k ≡ true → ContainedIn b o k
       yes e = record {
         valid = by-cases (eqb (firstNumber (containsTable b)) 0) (λ z. eqb-true (firstNumber (containsTable b)) 0 z) (λ z. absurd (true≢false (sym e ∙ contains-no (λ y. eqb-false (firstNumber (containsTable b)) 0 z y))));
-        within = by-cases (eqb (metaFault b) 0) (λ z. contained-exactly (get b (arena size)) o k (loadArena b) .0 (rw z at e)) (λ z. absurd (true≢false (sym (rw z at e))));
+        within = by-cases (eqb (metaFault b) 0) (λ z. contained-exactly (get b (arena size)) o k (loadArena b) .0 (and-right (formatValid b) _ (rw z at e))) (λ z. absurd (true≢false (sym (rw z at e))));
       }
+
+      made : eqb (metaFault b) 0 ≡ true → firstNumber (containsTable b) ≡ 0 → formatValid b ≡ true
+      made z v = by-cases inRanges (λ t. and-right (leb (get b (arena state)) 2) _ t) (λ t. let y : _≡_ {A = ℕ} 13 0 = rw (z, t) at (row-first ∙ v) in absurd (omega arith))
 
       no : ContainedIn b o k → containsOn b o k ≡ true
       no c =
           by-cases (eqb (metaFault b) 0)
-          (λ z. rw z (contained-exactly (get b (arena size)) o k (loadArena b) .1 (c .within)))
+          (λ z. rw (z, made z (c .valid)) (contained-exactly (get b (arena size)) o k (loadArena b) .1 (c .within)))
           (λ z. absurd (eqb-false (metaFault b) 0 z (rw z at (row-first ∙ c .valid))))
 
 pub digit-one : (t : Bool) → digit t ≡ 1 → t ≡ true

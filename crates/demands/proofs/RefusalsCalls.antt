@@ -1,7 +1,7 @@
 -- Each definition that an exported function's contract cites answers the first number of its table that applies, and keeps what it was
 -- lent where there is one. n is the arena's length in the book b.
 use Rattle.facts.proofs.Prelude.{ℕ, _+_, _-_, Bool, true, false, cond, not, _||_, List, [], _∷_, map, Option}
-use Rattle.facts.proofs.Prelude.{none, some, _≡_, refl, _∙_, eqb, ltb, leb, length, isNil, every, by-cases}
+use Rattle.facts.proofs.Prelude.{none, some, _≡_, refl, _∙_, eqb, leb, length, isNil, every, by-cases}
 use Rattle.words.specs.Host.{badHost}
 use Rattle.words.specs.Word.{chunkKind}
 use Rattle.classes.specs.declared.Shape.{Shape}
@@ -11,10 +11,10 @@ use Rattle.game.specs.Game.{badGame, Played, askerWins, winsOut}
 use Rattle.listing.specs.Listing.{badListing, Listed, shortHistories, writtenOut}
 use Rattle.rules.specs.Rules.{badRows, twoRows, noRow, rowsFault, rulesOf}
 use Rattle.arena.specs.Open.{opened}
-use Rattle.fields.specs.Field.{arena, class, size, frontier, partial, empty, cold, get}
+use Rattle.fields.specs.Field.{arena, class, size, partial, empty, cold, get}
 use Rattle.fields.specs.Outcome.{Outcome}
 use Rattle.fields.specs.Outcome as Fields
-use Rattle.fields.specs.Ranges.{metaFault, lengthFault}
+use Rattle.fields.specs.Ranges.{metaFault, lengthFault, headValid}
 use Rattle.model.specs.Heap.{badRun, badGrowth}
 use Rattle.model.specs.Release.{ofKind}
 use Rattle.arena.specs.Valid.{commitValid, giveValid, growValid, reportValid}
@@ -39,7 +39,7 @@ use Rattle.trace.proofs.Refused.{give-zero}
 use Rattle.demands.specs.Refusals.{shortList, nothingListed, manyChunks, wrongKind, otherPage, chunksDiffer, notHeld, openTable, commitTable, growTable, giveTable, reportTable, takeTable, releaseTable, chunksTable, rateTable, gameTable, listingTable}
 use Rattle.demands.specs.Number13.{takeValid}
 use Rattle.demands.proofs.Ranges.{commit-strays, give-strays, report-strays, take-strays, marks-strays, release-strays, chunks-strays, grow-strays}
-use Rattle.demands.proofs.RefusalsLaws.{not-and, le-not-lt, Ends, ends, turn, unless, out-turn, book-turn, chain, choose, before}
+use Rattle.demands.proofs.RefusalsLaws.{not-and, Ends, ends, turn, unless, out-turn, book-turn, chain, choose}
 
 -- ---- opening
 module _ (b d : List ℕ) where
@@ -139,12 +139,13 @@ module _ (n : ℕ) (b : List ℕ) (c : ℕ) (sh : Shape) (h : ℕ) (l : List ℕ
   pub take-row : takeRow (takeValid n b c sh) (takeBlocks n b c sh h l)
   unfolding takeValid takeBlocks
   take-row =
-      rw (le-not-lt (get b (arena frontier)) n)
-      (before _ _ 13 (ltb n (get b (arena frontier))) _ _ _ refl (refl, refl)
+      by-cases (headValid n b)
+      (λ e. rw e
       (choose _ _ 13 (not (eqb (get b (class partial c)) 0)) _ _ _ _ partial-row
       (choose _ _ 13 (not (eqb (get b (class empty c)) 0)) _ _ _ _ (park-row Empty)
       (choose _ _ 13 (not (eqb (get b (class cold c)) 0)) _ _ _ _ (park-row Cold)
       new-row))))
+      (λ e. rw e (record { number = refl; kept = λ d. (refl, refl) }))
 
 pub take-table : (low many : ℕ) (b : List ℕ) (c h : ℕ) (l : List ℕ) → Ends {R = Took} (λ t. t .code) (λ t. (t .book ≡ b) × (t .list ≡ l)) (takeTable low many b c h l) (takeOn low many b c h l)
 unfolding takeOn classFault callFault metaFault takeCall

@@ -69,7 +69,3 @@ module _ {R : Type 0} (code : R → ℕ) (Same : R → Type 0) (k : ℕ) where
   pub choose : (t i j : Bool) (x y : R) → Ends code Same ((k, not i) ∷ []) x → Ends code Same ((k, not j) ∷ []) y → Ends code Same ((k, not (cond t i j)) ∷ []) (cond t x y)
   choose true i j x y f g = f
   choose false i j x y f g = g
-
-  pub before : (t j : Bool) (x y : R) → code x ≡ k → Same x → Ends code Same ((k, not j) ∷ []) y → Ends code Same ((k, not (not t && j)) ∷ []) (cond t x y)
-  before true j x y e s g = record { number = e; kept = λ d. s }
-  before false j x y e s g = g

@@ -8,7 +8,7 @@ use Rattle.words.specs.Host.{badHost}
 use Rattle.words.specs.Limits.{classRows}
 use Rattle.words.specs.Word.{chunkKind}
 use Rattle.classes.specs.declared.Shape.{Shape}
-use Rattle.classes.specs.Shape.{shapeOf}
+use Rattle.classes.specs.Shape.{shapeOf, classCount}
 use Rattle.fields.specs.Field.{arena, size, get}
 use Rattle.fields.specs.Ranges.{metaFault}
 use Rattle.model.specs.Calls as Calls
@@ -187,6 +187,9 @@ module _ (t : ℕ → List ℕ → ℕ → Shape → List ℕ → Bool) (f : Out
       rw (list-turned 0 64 b c a ws f (and-left (eqb (firstNumber (releaseEarly 0 64 b c a ws)) 0) _ e) k (h _ _ _ _ _ (and-right (eqb (firstNumber (releaseEarly 0 64 b c a ws)) 0) _ e)) z, z)
   turned-by k z h b (Calls.mediumReleaseBlocks c a ws) e =
       rw (list-turned 64 12 b c a ws f (and-left (eqb (firstNumber (releaseEarly 64 12 b c a ws)) 0) _ e) k (h _ _ _ _ _ (and-right (eqb (firstNumber (releaseEarly 64 12 b c a ws)) 0) _ e)) z, z)
+  turned-by k z h b (Calls.pooledTake c a l) e = absurd (false≢true e)
+  turned-by k z h b (Calls.pooledRelease c a ws) e =
+      rw (list-turned classCount classCount b c a ws f (and-left (eqb (firstNumber (releaseEarly classCount classCount b c a ws)) 0) _ e) k (h _ _ _ _ _ (and-right (eqb (firstNumber (releaseEarly classCount classCount b c a ws)) 0) _ e)) z, z)
   turned-by k z h b (Calls.releaseBinChunks c a ws gs fs) e =
       rw (chunks-turned b c a ws gs fs f (and-left (eqb (firstNumber (chunksEarly b c a ws gs fs)) 0) _ e) k (h _ _ _ _ _ (and-right (eqb (firstNumber (chunksEarly b c a ws gs fs)) 0) _ e)) z, z)
   turned-by k z h b (Calls.commit a m) e = absurd (false≢true e)
@@ -205,6 +208,10 @@ module _ (t : ℕ → List ℕ → ℕ → Shape → List ℕ → Bool) (f : Out
   same-by g h b (Calls.mediumReleaseBlocks c a ws) e =
       ap listReply
       (by-cases (eqb (firstNumber (releaseEarly 64 12 b c a ws)) 0) (λ u. list-as 64 12 b c a ws f g (h _ _ _ _ _ (rw u at e))) (λ u. list-same 64 12 b c a ws f g u))
+  same-by g h b (Calls.pooledTake c a l) e = refl
+  same-by g h b (Calls.pooledRelease c a ws) e =
+      ap listReply
+      (by-cases (eqb (firstNumber (releaseEarly classCount classCount b c a ws)) 0) (λ u. list-as classCount classCount b c a ws f g (h _ _ _ _ _ (rw u at e))) (λ u. list-same classCount classCount b c a ws f g u))
   same-by g h b (Calls.releaseBinChunks c a ws gs fs) e =
       ap chunksReply
       (by-cases (eqb (firstNumber (chunksEarly b c a ws gs fs)) 0) (λ u. chunks-as b c a ws gs fs f g (h _ _ _ _ _ (rw u at e))) (λ u. chunks-same b c a ws gs fs f g u))
@@ -240,6 +247,8 @@ by-now b (Calls.takeBlocks c h l) = refl
 by-now b (Calls.mediumTakeBlocks c h l) = refl
 by-now b (Calls.releaseBlocks c h ws) = refl
 by-now b (Calls.mediumReleaseBlocks c h ws) = refl
+by-now b (Calls.pooledTake c h l) = refl
+by-now b (Calls.pooledRelease c h ws) = refl
 by-now b (Calls.releaseBinChunks c h ws gs fs) = refl
 by-now b (Calls.commit h m) = refl
 by-now b (Calls.growFrontier h q old new) = refl

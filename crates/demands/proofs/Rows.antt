@@ -6,7 +6,8 @@ use Rattle.words.specs.Host.{digit}
 use Rattle.words.specs.Limits.{classRows}
 use Rattle.words.specs.Word.{countOf, pageOf}
 use Rattle.classes.specs.declared.Shape.{Shape}
-use Rattle.fields.specs.Field.{arena, class, page, size, frontier, holes, holePages, held, pages, partial, empty, emptyCount, cold, coldCount, free, carved, listed, get}
+use Rattle.fields.specs.Ranges.{formatValid, headValid}
+use Rattle.fields.specs.Field.{arena, class, page, size, format, frontier, holes, holePages, held, pages, partial, empty, emptyCount, cold, coldCount, free, carved, listed, get}
 use Rattle.rules.specs.declared.Limits.{Limits}
 use Rattle.model.specs.Destination.{destinationOf, isEmpty, isCold, isArena}
 use Rattle.arena.specs.Load.{loadHoles, loadArena}
@@ -59,8 +60,8 @@ module _ (b b′ : List ℕ) where
   module _ (n : ℕ) where
     -- ---- the arena
     record-same : Same recordReads → recordValid n b ≡ recordValid n b′
-    unfolding recordValid recordReads countReads
-    record-same h = rw (h .0, h .1 .0, h .1 .1 .0, h .1 .1 .1 .0, h .1 .1 .1 .1 .0)
+    unfolding recordValid headValid formatValid recordReads countReads
+    record-same h = rw (h .0, h .1 .0, h .1 .1 .0, h .1 .1 .1 .0, h .1 .1 .1 .1 .0, h .1 .1 .1 .1 .1 .0)
 
     parked-same : (cs : List ℕ) → Same (parkedReads cs) → every (countsValid b) cs ≡ every (countsValid b′) cs
     unfolding parkedReads
@@ -80,7 +81,7 @@ module _ (b b′ : List ℕ) where
 
     holes-words : Same recordReads → (get b (arena holes) ≡ get b′ (arena holes)) × (get b (arena holePages) ≡ get b′ (arena holePages)) × (get b (arena frontier) ≡ get b′ (arena frontier))
     unfolding recordReads
-    holes-words h = (h .1 .1 .0, h .1 .1 .1 .0, h .1 .0)
+    holes-words h = (h .1 .1 .1 .0, h .1 .1 .1 .1 .0, h .1 .1 .0)
 
     commit-same : Same (commitReads b) → commitValid n b ≡ commitValid n b′
     unfolding commitValid commitReads holesValid
@@ -101,8 +102,8 @@ module _ (b b′ : List ℕ) where
     ends-same e d h = rw (neighbours-same (get b (arena frontier)) 0 (get b (arena holes)) h, e, d)
 
     given-record : (m : ℕ) → Same (givenReads m) → (recordValid n b ≡ recordValid n b′) × (get b (arena held) ≡ get b′ (arena held)) × (get b (arena holes) ≡ get b′ (arena holes)) × (get b (arena frontier) ≡ get b′ (arena frontier))
-    unfolding recordValid givenReads countReads
-    given-record m h = (rw (h .0, h .1 .0, h .1 .1 .0, h .1 .1 .1 .0, h .1 .1 .1 .1 .0), h .1 .1 .1 .1 .0, h .1 .1 .0, h .1 .0)
+    unfolding recordValid headValid formatValid givenReads countReads
+    given-record m h = (rw (h .0, h .1 .0, h .1 .1 .0, h .1 .1 .1 .0, h .1 .1 .1 .1 .0, h .1 .1 .1 .1 .1 .0), h .1 .1 .1 .1 .1 .0, h .1 .1 .1 .0, h .1 .1 .0)
 
     give-same : (m : ℕ) → Same (giveReads b m) → giveValid n b m ≡ giveValid n b′ m
     unfolding giveValid giveReads
@@ -195,25 +196,30 @@ module _ (b b′ : List ℕ) where
           let s = page-same f 0 (listedNo q) (sh .batch) (λ d. refl) (h .1 .1 .1) in
           rw (← e, s, h .1 .1 .0, low, h .0, k)
 
-      -- ---- a take: its source
+      -- ---- a take: FORMAT and FRONTIER, then its source
+      head-same : get b (arena format) ≡ get b′ (arena format) → headValid n b ≡ headValid n b′
+      unfolding headValid formatValid
+      head-same f = rw (f, low)
+
       take-same : Same (takeReads b c sh) → takeValid n b c sh ≡ takeValid n b′ c sh
       unfolding takeValid takeReads
       take-same h =
+          let f = head-same (h .0) in
           by-cases (not (eqb (get b (class partial c)) 0))
           (λ e.
-          let w = (rw e at h) .1 in
+          let w = (rw e at h) .1 .1 in
           let x = walk-code (sh .batch) (sh .batch) (partialOf c) 0 w in
           let e′ : not (eqb (get b′ (class partial c)) 0) ≡ true = rw x at e in
-          rw (e, e′, walk-same (sh .batch) (sh .batch) (partialOf c) 0 w, low, x))
+          rw (e, e′, walk-same (sh .batch) (sh .batch) (partialOf c) 0 w, f, x))
           (λ e.
-          let h = (rw e at h) .1 in
+          let h = (rw e at h) .1 .1 in
           let e′ : not (eqb (get b′ (class partial c)) 0) ≡ false = rw (h .0) at e in
           rw (e, e′)
           (by-cases (not (eqb (get b (class empty c)) 0))
           (λ e.
           let w = (rw e at h) .1 in
           let e′ : not (eqb (get b′ (class empty c)) 0) ≡ true = rw (park-code (emptyOf c) (emptyTaken c) w) at e in
-          rw (e, e′, park-same Empty (emptyOf c) (emptyTaken c) refl (λ d. refl) w, low))
+          rw (e, e′, park-same Empty (emptyOf c) (emptyTaken c) refl (λ d. refl) w, f))
           (λ e.
           let h = (rw e at h) .1 in
           let e′ : not (eqb (get b′ (class empty c)) 0) ≡ false = rw (h .0) at e in
@@ -222,11 +228,11 @@ module _ (b b′ : List ℕ) where
           (λ e.
           let w = (rw e at h) .1 in
           let e′ : not (eqb (get b′ (class cold c)) 0) ≡ true = rw (park-code (coldOf c) (coldTaken c) w) at e in
-          rw (e, e′, park-same Cold (coldOf c) (coldTaken c) refl (λ d. refl) w, low))
+          rw (e, e′, park-same Cold (coldOf c) (coldTaken c) refl (λ d. refl) w, f))
           (λ e.
           let h = (rw e at h) .1 in
           let e′ : not (eqb (get b′ (class cold c)) 0) ≡ false = rw (h .0) at e in
-          rw (e, e′, commit-same (h .1), low))))))
+          rw (e, e′, commit-same (h .1), f))))))
 
       -- ---- releases
       back-same : (m q : ℕ) → Same (backReads b sh m q) → pageValid b sh m q ≡ pageValid b′ sh m q
@@ -263,11 +269,11 @@ module _ (b b′ : List ℕ) where
           let ps = backReads b sh m q in
           let t = eqb (get b (page free q) + m) (get b (page carved q)) && isArena (destinationAt b c sh) in
           let gs = cond t (giveReads b (sh .pages)) [] in
-          let p = left ps (rowReads c ++ gs) (h .1) in
-          let r = right ps (rowReads c ++ gs) (h .1) in
+          let p = left ps (rowReads c ++ gs) (h .1 .1) in
+          let r = right ps (rowReads c ++ gs) (h .1 .1) in
           let w = back-words m q p in
           let e = row-words (left (rowReads c) gs r) in
-          rw (back-same m q p, row-same (left (rowReads c) gs r), given-same t (sh .pages) (right (rowReads c) gs r), low, w .0, w .1, e .0, e .1, e .2)
+          rw (back-same m q p, row-same (left (rowReads c) gs r), given-same t (sh .pages) (right (rowReads c) gs r), head-same (h .0), w .0, w .1, e .0, e .1, e .2)
 
       -- ---- releases of chunks
       backs-same : (gs : List ℕ)
@@ -299,15 +305,15 @@ module _ (b b′ : List ℕ) where
           let ps = backsReads b sh gs in
           let m = pagesGiven b c sh gs in
           let ms = cond (eqb m 0) [] (giveReads b m) in
-          let p = left ps (rowReads c ++ ms) (h .1) in
-          let r = right ps (rowReads c ++ ms) (h .1) in
+          let p = left ps (rowReads c ++ ms) (h .1 .1) in
+          let r = right ps (rowReads c ++ ms) (h .1 .1) in
           let e = row-words (left (rowReads c) ms r) in
           rw (
             backs-same gs p,
             row-same (left (rowReads c) ms r),
             none-same (eqb m 0) m (right (rowReads c) ms r),
             runs-same (limitsAt b c) gs (get b (class emptyCount c)) (get b (class coldCount c)) p,
-            low,
+            head-same (h .0),
             e .0,
             e .1,
             e .2,
@@ -317,23 +323,23 @@ module _ (b b′ : List ℕ) where
 module _ (b b′ : List ℕ) where
   take-low : (c : ℕ) (sh : Shape) → Same b b′ (takeReads b c sh) → get b (arena frontier) ≡ get b′ (arena frontier)
   unfolding takeReads
-  take-low c sh h = h .0
+  take-low c sh h = h .1 .0
 
   release-low : (c : ℕ) (sh : Shape) (m q : ℕ) → Same b b′ (releaseReads b c sh m q) → get b (arena frontier) ≡ get b′ (arena frontier)
   unfolding releaseReads
-  release-low c sh m q h = h .0
+  release-low c sh m q h = h .1 .0
 
   chunks-low : (c : ℕ) (sh : Shape) (gs : List ℕ) → Same b b′ (chunksReads b c sh gs) → get b (arena frontier) ≡ get b′ (arena frontier)
   unfolding chunksReads
-  chunks-low c sh gs h = h .0
+  chunks-low c sh gs h = h .1 .0
 
   stock-same : (c : ℕ) → Same b b′ (stockReads c) → countValid b c ≡ countValid b′ c
   unfolding stockReads countValid
   stock-same c h = rw (h .0)
 
   top-same : (c : ℕ) → get b (arena size) ≡ get b′ (arena size) → Same b b′ (topReads b c) → topValid (get b (arena size)) b c ≡ topValid (get b′ (arena size)) b′ c
-  unfolding topReads topValid countValid
-  top-same c e h = let r = h .1 in rw (r .0, h .0, e)
+  unfolding topReads topValid countValid formatValid
+  top-same c e h = let r = h .1 in rw (r .1 .0, r .0, h .0, e)
 
   pub rows-decide : RowsDecide b b′
   rows-decide =

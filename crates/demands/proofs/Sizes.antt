@@ -5,7 +5,7 @@ use Rattle.facts.proofs.Prelude.{ℕ, _+_, _-_, _*_, _%_, _≤_, _<_, arith, mu
 use Rattle.facts.proofs.Prelude.{refl, ap, _∙_, eqb, leb, ltb, getD, eqb-true, lt-ltb, lt-leb, le-ltb, ltb-true, ltb-false, ne-eqb, every, below, by-cases, every-at}
 use Rattle.classes.specs.declared.Shape.{Shape}
 use Rattle.classes.specs.Sizes.{smallSizes, mediumSizes, granuleBytes}
-use Rattle.classes.specs.Shape.{smallShape, mediumShape, shapeOf}
+use Rattle.classes.specs.Shape.{numberOf, smallShape, mediumShape, shapeOf, classCount}
 use Rattle.classes.specs.way.Sound.{Sound}
 use Rattle.classes.proofs.Shapes.{shape-sound}
 use Rattle.classes.proofs.Table as Table
@@ -26,13 +26,13 @@ medium-bytes c = eqb-true _ _ (Table.every-at (λ size. eqb (mediumShape size .b
 
 small-at : (c : ℕ) → c < 64 → shapeOf c .block * granuleBytes ≡ getD smallSizes c 0
 unfolding shapeOf smallSizes
-small-at c l = rw (lt-ltb c 64 l) (small-bytes c ∙ getD-within smallSizes 16384 0 c l)
+small-at c l = rw (lt-ltb c classCount (omega arith), lt-ltb c 64 l) (small-bytes c ∙ getD-within smallSizes 16384 0 c l)
 
 medium-at : (k : ℕ) → k < 12 → shapeOf (64 + k) .block * granuleBytes ≡ getD mediumSizes k 0
 unfolding shapeOf mediumSizes
 medium-at k l =
     let e : 64 + k - 64 ≡ k = omega arith in
-    rw (le-ltb (64 + k) 64 (omega arith), e) (medium-bytes k ∙ getD-within mediumSizes 65472 0 k l)
+    rw (lt-ltb (64 + k) classCount (omega arith), le-ltb (64 + k) 64 (omega arith), e) (medium-bytes k ∙ getD-within mediumSizes 65472 0 k l)
 
 pub block-bytes : (e : Entry) → TableBytes e
 block-bytes e = record {
@@ -58,7 +58,7 @@ medium-offsets c = Table.every-at (λ size. offsets (mediumShape size)) mediumSi
 
 class-offsets : (c : ℕ) → offsets (shapeOf c) ≡ true
 unfolding shapeOf
-class-offsets c = by-cases (ltb c 64) (λ e. rw e (small-offsets c)) (λ e. rw e (medium-offsets (c - 64)))
+class-offsets c = let k = numberOf c in by-cases (ltb k 64) (λ e. rw e (small-offsets k)) (λ e. rw e (medium-offsets (k - 64)))
 
 module _ (sh : Shape) (ok : Sound sh) (off : offsets sh ≡ true) where
   no-step : (d k : ℕ) → 1 ≤ d → d < sh .pages → d * pageGranules ≡ k * sh .block → ⊥

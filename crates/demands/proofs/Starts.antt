@@ -28,7 +28,7 @@ pub begins : {s : Start} {b′ : List ℕ} → Begins s b′ → Starts s × (b�
 begins (opens n rows b b′ d) = (sym (d .answer), d .book)
 begins (traces n b ws bl fl dn r b′ bl′ fl′ dn′ e z) = (Trace.trace .starts n b ws bl fl dn r b′ bl′ fl′ dn′ e .0 z, e .book)
 
-begun-is : (s : Start) → Starts s → begun s ≡ Opening.bookAfter (pages s) (ruleRows s) (lent s) (did s)
+pub begun-is : (s : Start) → Starts s → begun s ≡ Opening.bookAfter (pages s) (ruleRows s) (lent s) (did s)
 begun-is (opening n rows b) o = refl
 begun-is (trace n b ws bl fl dn) o = trace-opens n b o ws bl fl dn .book
 

@@ -3,7 +3,7 @@
 --     back-step      the block of an entry not yet released is of the class that owns its page, and its release is not refused
 --     report-is      a report has the model's figures
 use Rattle.facts.proofs.Prelude.{ℕ, suc, _+_, _-_, _/_, _≤_, arith, Bool, true, false, cond, List, [], _∷_, _++_, Option, none, some, _≡_, refl, sym, ap}
-use Rattle.facts.proofs.Prelude.{_∙_, eqb, ltb, length, length-take-le, eqb-true, ltb-true, ltb-false, lt-ltb, le-ltb, le-leb, every, by-cases, and-left}
+use Rattle.facts.proofs.Prelude.{_∙_, eqb, ltb, length, length-take-le, ltb-true, ltb-false, lt-ltb, le-ltb, le-leb, every, by-cases, and-left}
 use Rattle.words.specs.Host.{hostMax}
 use Rattle.classes.specs.declared.Shape.{Shape}
 use Rattle.classes.specs.Sizes.{pageBytes}
@@ -18,7 +18,7 @@ use Rattle.model.specs.Page.{Page}
 use Rattle.model.specs.Class.{Class, Cold, serve, takeFrom, served, onRun}
 use Rattle.model.specs.Release.{ofKind}
 use Rattle.model.specs.Chunks.{answer}
-use Rattle.model.specs.Heap.{Holder, nobody, direct, class, Heap, isHeld, figures, directCall, step}
+use Rattle.model.specs.Heap.{class, Heap, isHeld, figures, directCall, step}
 use Rattle.model.specs.History.{events, heapAfter}
 use Rattle.model.specs.Entries.{Entry, In, Live, firstByte}
 use Rattle.model.specs.Ledger.{heldBy}
@@ -50,6 +50,7 @@ use Rattle.demands.proofs.Observed.{out-observed}
 use Rattle.demands.proofs.Codes.{next-class, next-exactly}
 use Rattle.demands.proofs.Places.{byte-held}
 use Rattle.demands.proofs.Returns.{list-returns, word-returns}
+use Rattle.demands.proofs.Holders.{owned}
 use Rattle.demands.proofs.TraceLive.{live, own-byte}
 
 -- ---- the book after one call more
@@ -99,12 +100,7 @@ class-taken lim c s g = rw (le-ltb 64 (shapeOf c .batch) (shape-sound c .limited
 took-blocks : (t : Took) → t .code ≡ 0 → Calls.blocksOf (takeReply t .answer) ≡ Words.blocksOf t
 took-blocks t e = rw e
 
--- ---- who holds a page
-owned : (c : ℕ) (h : Holder) → 1 ≤ heldBy c h → h ≡ class c
-owned c nobody l = absurd (omega arith)
-owned c direct l = absurd (omega arith)
-owned c (class d) l = by-cases (eqb d c) (λ e. ap class (eqb-true d c e)) (λ e. absurd (omega (arith, rw e at l)))
-
+-- ---- the release by the page's owner
 back-now : (n : ℕ) (b : List ℕ) (c w : ℕ) → ltb c classCount ≡ true → ownerAt n b w ≡ suc c → backNow n b w ≡ releaseBlocks n b c (shapeOf c) hostMax (w ∷ [])
 unfolding backNow
 back-now n b c w h e =

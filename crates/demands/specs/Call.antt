@@ -5,6 +5,7 @@
 --             vigbuso_release_bin_chunks, vigbuso_commit, vigbuso_grow_frontier, vigbuso_release, vigbuso_contains, vigbuso_report
 use Prim.Native.Nat.{ℕ}
 use mathlib.Core.List.{List, []}
+use Rattle.classes.specs.Shape.{classCount}
 use Rattle.model.specs.Calls as Calls
 use Rattle.model.specs.Calls.{Call, contained, reported}
 use Rattle.vigbuso.specs.Direct as Direct
@@ -20,6 +21,8 @@ call b (Calls.takeBlocks c h l) = takeReply (takeOn 0 64 b c h l)
 call b (Calls.mediumTakeBlocks c h l) = takeReply (takeOn 64 12 b c h l)
 call b (Calls.releaseBlocks c h ws) = listReply (Blocks.releaseOn 0 64 b c h ws)
 call b (Calls.mediumReleaseBlocks c h ws) = listReply (Blocks.releaseOn 64 12 b c h ws)
+call b (Calls.pooledTake c h l) = takeReply (takeOn classCount classCount b c h l)
+call b (Calls.pooledRelease c h ws) = listReply (Blocks.releaseOn classCount classCount b c h ws)
 call b (Calls.releaseBinChunks c h ws gs fs) = chunksReply (chunksOn b c h ws gs fs)
 call b (Calls.commit h m) = commitReply (commitOn b h m)
 call b (Calls.growFrontier h q old new) = growReply (growOn b h q old new)

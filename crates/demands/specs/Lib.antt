@@ -27,7 +27,6 @@ pub mod InOrder
 pub mod Repeats
 pub mod Marks
 pub mod Wide
-pub mod Pool
+pub mod Mixed
 pub mod PoolContracts
 pub mod PoolRefusals
-pub mod way

@@ -1,6 +1,6 @@
 -- Number 13 is one table: each test of the code is that every word which the call reads is in its range by specs/Ranges, and, in a take,
 -- that each listed page which it comes to yields a block. For every book; n is LENGTH.
---     takeValid   a take's test: the frontier, then its source, which is the partial list as far as the take goes, or the newest empty
+--     takeValid   a take's test: FORMAT and FRONTIER, then its source, which is the partial list as far as the take goes, or the newest empty
 --                 page, or the newest cold one, or the arena
 --     Number13    the equations, one for each test of docs/RANGES.md, "Where each test stands"
 --     RowsDecide  a test looks at no word but those of the rows, and LENGTH
@@ -8,10 +8,11 @@ use Prim.Native.Nat.{ℕ}
 use mathlib.Core.Bool.{Bool, cond, not, _&&_}
 use mathlib.Core.List.{List}
 use mathlib.Core.Path.{_≡_}
-use lib.Dec.{eqb, leb}
+use lib.Dec.{eqb}
 use Rattle.facts.specs.Lists.{All}
 use Rattle.classes.specs.declared.Shape.{Shape}
-use Rattle.fields.specs.Field.{arena, class, size, frontier, partial, empty, cold, get}
+use Rattle.fields.specs.Field.{arena, class, size, partial, empty, cold, get}
+use Rattle.fields.specs.Ranges.{headValid}
 use Rattle.arena.specs.Valid.{commitValid, giveValid, growValid, reportValid}
 use Rattle.pages.specs.declared.Park.the-variants.{Empty, Cold}
 use Rattle.calls.specs.Take.{walk, parkValid}
@@ -24,7 +25,7 @@ use Rattle.demands.specs.Reads.{commitReads, giveReads, reportReads, tak
 
 unfoldable pub takeValid : ℕ → List ℕ → ℕ → Shape → Bool
 takeValid n b c sh =
-    leb (get b (arena frontier)) n
+    headValid n b
     && cond (not (eqb (get b (class partial c)) 0)) (walk n b c sh (sh .batch) (sh .batch) (get b (class partial c)) 0)
     (cond (not (eqb (get b (class empty c)) 0)) (parkValid n b c sh Empty)
     (cond (not (eqb (get b (class cold c)) 0)) (parkValid n b c sh Cold)

@@ -9,7 +9,7 @@ use lib.ListN.{length, take}
 use Rattle.classes.specs.declared.Sized.the-variants.{Small, Medium}
 use Rattle.classes.specs.Sizes.{maxSmallSize, maxMediumSize, pageBytes}
 use Rattle.classes.specs.Lookup.{sizeClass, classForSize, mediumClassForSize}
-use Rattle.classes.specs.Shape.{shapeOf}
+use Rattle.classes.specs.Shape.{shapeOf, classCount}
 use Rattle.model.specs.Calls.{Call}
 use Rattle.model.specs.Destination.{destinationOf}
 use Rattle.model.specs.Original.{originalAnswers, Claimed}
@@ -29,7 +29,7 @@ pub record Equality (s : Start) : Type 0 where
   -- the limits, where e empty runs and k cold ones are kept: "at most 4 empty, .. then 256 cold, then given to the arena"
   pub limits : (c e k : ℕ) → c < 64 → destinationOf (shapeOf c) (rules s c) e k ≡ goesTo (ltb e 4) (ltb k 256)
   -- "Empty spans: 32 and 8 MiB; cold: 256"
-  pub spanLimits : (c e k : ℕ) → 64 ≤ c → destinationOf (shapeOf c) (rules s c) e k ≡ goesTo (ltb e 32 && leb (suc e * shapeOf c .pages * pageBytes) (8 * 2 ^ 20)) (ltb k 256)
+  pub spanLimits : (c e k : ℕ) → 64 ≤ c → c < classCount → destinationOf (shapeOf c) (rules s c) e k ≡ goesTo (ltb e 32 && leb (suc e * shapeOf c .pages * pageBytes) (8 * 2 ^ 20)) (ltb k 256)
 
 -- the sizes that A.6 did not change: `class_for_size` up to 16,384, `medium_class_for_size` from there to 65,472
 pub record SameLookups : Type 0 where

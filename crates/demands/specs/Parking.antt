@@ -16,7 +16,7 @@ use Rattle.words.specs.Host.{digit}
 use Rattle.words.specs.Limits.{classRows}
 use Rattle.words.specs.Word.{pageOf}
 use Rattle.classes.specs.declared.Shape.{Shape}
-use Rattle.classes.specs.Shape.{shapeOf}
+use Rattle.classes.specs.Shape.{shapeOf, classCount, poolId}
 use Rattle.rules.specs.declared.Limits.{Limits}
 use Rattle.rules.specs.Rules.{plainRules, RowsCover, Fit}
 use Rattle.model.specs.declared.Destination.{Destination}
@@ -68,10 +68,12 @@ pub record Parking (s : Start) : Type 0 where
   pub stand : (xs : List Call) (c : ℕ) → c < classRows → limitsAt (bookAfter s xs) c ≡ rules s c
   -- and its stores keep to them, "alone": the class's own runs are counted
   pub within : (xs : List Call) (c : ℕ) → Within (shapeOf c) (rules s c) (heapAfter (pages s) (rules s) (calls s xs) .classes c)
+  -- a class of the pool has the limits and the shape of the heap's class of its number
+  pub alike : (c : ℕ) → c < classCount → (rules s (poolId c) ≡ rules s c) × (shapeOf (poolId c) ≡ shapeOf c)
   -- where an emptied run goes, e empty ones and k cold ones being kept: a small class has no other limit than its row's
   pub kept : (c e k : ℕ) → c < 64 → destinationOf (shapeOf c) (rules s c) e k ≡ goesTo (ltb e (rules s c .empty)) (ltb k (rules s c .cold))
   -- a medium one has 8 MiB, 128 pages, of empty spans beside it
-  pub keptSpans : (c e k : ℕ) → 64 ≤ c → destinationOf (shapeOf c) (rules s c) e k ≡ goesTo (ltb e (rules s c .empty) && leb (suc e * shapeOf c .pages) 128) (ltb k (rules s c .cold))
+  pub keptSpans : (c e k : ℕ) → 64 ≤ c → c < classCount → destinationOf (shapeOf c) (rules s c) e k ≡ goesTo (ltb e (rules s c .empty) && leb (suc e * shapeOf c .pages) 128) (ltb k (rules s c .cold))
   -- over the calls: a release by list that is not refused and has a block of the class's run at q answers 0 where it leaves a block of the run out by the
   -- history; else the fate of where the run goes, by the row's limits and by how many empty and cold runs the model's class has
   pub fates : (xs : List Call) (x : Call) (c h q v : ℕ) (ws : List ℕ) → names x ≡ some (record { class = c; request = giveBack h ws }) → isRefused (next s xs x .answer) ≡ false

@@ -1,4 +1,5 @@
--- What a caller sees of one call of the pool, and of calls in turn, by the contracts of the exported functions alone; specs/Contracts has it of the heap's.
+-- What a caller sees of one call, of the heap or of the pool, and of calls in turn, by the contracts of the exported functions alone; specs/Contracts has it of the
+-- heap's calls.
 -- Assumes nothing.
 --     blockObserved    what is read from the number and the out-parameter of an alloc or a trim; `got` names a block
 --     freeObserved     from a free's number
@@ -9,7 +10,8 @@ use mathlib.Core.List.{List, [], _∷_}
 use lib.Dec.{eqb}
 use Rattle.refinement.specs.Direct.{Reply}
 use Rattle.pool.specs.Pool as Pool
-use Rattle.pool.specs.Pool.{PoolCall, PoolAnswer, Direct, to, callBy, refused, granted, trimmed, noBlock, freed, answered}
+use Rattle.model.specs.Calls.{Call}
+use Rattle.pool.specs.Pool.{PoolCall, PoolAnswer, to, refused, granted, trimmed, noBlock, freed, answered}
 use Rattle.poolcalls.specs.Calls.{PoolReply, poolReply}
 use Rattle.vigbuso.specs.Pool.{poolOn, BlockEnds, FreeEnds}
 use Rattle.demands.specs.Contracts.{Observes}
@@ -26,7 +28,7 @@ pub data PoolObserves (b : List ℕ) : PoolCall → PoolReply → Type 0 where
   alloc : (c h r w w′ : ℕ) (b′ : List ℕ) → BlockEnds (poolOn b c (Pool.alloc h)) r b′ w w′ → PoolObserves b (to c (Pool.alloc h)) (poolReply (blockObserved granted r w′) b′)
   free : (c h w r : ℕ) (b′ : List ℕ) → FreeEnds (poolOn b c (Pool.free h w)) r b′ → PoolObserves b (to c (Pool.free h w)) (poolReply (freeObserved r) b′)
   trim : (c h r w w′ : ℕ) (b′ : List ℕ) → BlockEnds (poolOn b c (Pool.trim h)) r b′ w w′ → PoolObserves b (to c (Pool.trim h)) (poolReply (blockObserved trimmed r w′) b′)
-  direct : (d : Direct) (w : Reply) → Observes b (callBy d) w → PoolObserves b (Pool.direct d) (poolReply (answered (w .answer)) (w .book))
+  heap : (x : Call) (w : Reply) → Observes b x w → PoolObserves b (Pool.heap x) (poolReply (answered (w .answer)) (w .book))
 
 pub data PoolInTurn : List ℕ → List PoolCall → List PoolReply → Type 0 where
   ends : (b : List ℕ) → PoolInTurn b [] []

@@ -11,7 +11,9 @@ use Prim.Native.Nat.{ℕ, suc, _*_}
 use mathlib.Core.Bool.{Bool, not}
 use mathlib.Core.List.{List}
 use Rattle.facts.specs.Lists.{every}
-use Rattle.fields.specs.Field.{ArenaField, Field, arena, mark, class, hole, page, slot, size, state, frontier, holes, holePages, held, start, pages, partial, empty, emptyCount, cold, coldCount, owner, first, next, prev, free, carved, listed, virgin, get, emptyLimit, coldLimit}
+use Rattle.words.specs.Limits.{bookFormat}
+use Rattle.classes.specs.Shape.{shapeOf, poolId}
+use Rattle.fields.specs.Field.{ArenaField, Field, arena, mark, class, hole, page, slot, size, format, state, frontier, holes, holePages, held, start, pages, partial, empty, emptyCount, cold, coldCount, owner, first, next, prev, free, carved, listed, virgin, get, emptyLimit, coldLimit}
 use Rattle.fields.specs.Ranges.{maxParked, Range, anyValue, upTo, between, exactly, below, endsBy, runsTo, within}
 use Rattle.model.specs.HoleStore.{holeSlots, holePagesMax}
 use Rattle.pool.specs.Stock.{countMax}
@@ -36,6 +38,7 @@ linkField (prevOf p) = page prev p
 pub data Use : Type 0 where
   -- the arena's record; `heldGives k` where the call gives k pages
   stateKnown : Use
+  formatIs : Use
   frontierFits : Use
   holesFew : Use
   holePagesFew : Use
@@ -81,6 +84,7 @@ pub data Use : Type 0 where
 
 abbrev pub value : List ℕ → Use → ℕ
 value b stateKnown = get b (arena state)
+value b formatIs = get b (arena format)
 value b frontierFits = get b (arena frontier)
 value b holesFew = get b (arena holes)
 value b holePagesFew = get b (arena holePages)
@@ -115,6 +119,7 @@ value b (entryLow c k) = entryIn b c k
 
 abbrev pub range : List ℕ → Use → Range
 range b stateKnown = upTo 2
+range b formatIs = exactly bookFormat
 range b frontierFits = upTo (get b (arena size))
 range b holesFew = upTo holeSlots
 range b holePagesFew = upTo holePagesMax
@@ -145,7 +150,7 @@ range b (listedFlag p) = upTo 1
 range b (carvedFits p capacity) = upTo capacity
 range b (virginFlag p) = upTo 1
 range b (stockFew c) = upTo countMax
-range b (entryLow c k) = below (4096 * get b (arena size))
+range b (entryLow c k) = endsBy (shapeOf (poolId c) .block) (4096 * get b (arena size))
 
 abbrev pub inRange : List ℕ → Use → Bool
 inRange b u = within (range b u) (value b u)

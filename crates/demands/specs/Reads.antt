@@ -25,7 +25,7 @@ use Rattle.pages.specs.Stack.{indexOf}
 use Rattle.calls.specs.Out.{startOf, outs}
 use Rattle.calls.specs.Release.{destinationAt}
 use Rattle.calls.specs.Chunks.{pagesGiven}
-use Rattle.demands.specs.Ranges.{Link, partialOf, emptyOf, coldOf, nextOf, prevOf, linkField, Use, stateKnown, frontierFits, holesFew, holePagesFew, heldFits, heldGives, counted, holeSome, holeEnds, code, visited, emptyFew, emptyTaken, coldFew, coldTaken, ownerIs, firstIs, prevIs, listedYes, listedNo, freeFits, entryCarved, markClear, freeWith, listedFlag, carvedFits, virginFlag, neighbourHole, emptyLimited, coldLimited, stockFew, entryLow}
+use Rattle.demands.specs.Ranges.{Link, partialOf, emptyOf, coldOf, nextOf, prevOf, linkField, Use, stateKnown, formatIs, frontierFits, holesFew, holePagesFew, heldFits, heldGives, counted, holeSome, holeEnds, code, visited, emptyFew, emptyTaken, coldFew, coldTaken, ownerIs, firstIs, prevIs, listedYes, listedNo, freeFits, entryCarved, markClear, freeWith, listedFlag, carvedFits, virginFlag, neighbourHole, emptyLimited, coldLimited, stockFew, entryLow}
 use Rattle.arena.specs.Valid.{growGives}
 use Rattle.poolcalls.specs.Stock.{countIn}
 
@@ -34,7 +34,7 @@ unfoldable pub countReads : List Use
 countReads = counted commits ∷ counted commitsHigh ∷ counted reuses ∷ counted reusesHigh ∷ counted abandoned ∷ counted abandonedHigh ∷ []
 
 unfoldable pub recordReads : List Use
-recordReads = stateKnown ∷ frontierFits ∷ holesFew ∷ holePagesFew ∷ heldFits ∷ countReads
+recordReads = stateKnown ∷ formatIs ∷ frontierFits ∷ holesFew ∷ holePagesFew ∷ heldFits ∷ countReads
 
 -- k holes from index i on
 unfoldable pub holeReads : ℕ → ℕ → List Use
@@ -49,7 +49,7 @@ neighboursReads i zero = []
 neighboursReads i (suc k) = neighbourHole i ∷ holeEnds i ∷ neighboursReads (suc i) k
 
 unfoldable pub givenReads : ℕ → List Use
-givenReads m = stateKnown ∷ frontierFits ∷ holesFew ∷ holePagesFew ∷ heldGives m ∷ countReads
+givenReads m = stateKnown ∷ formatIs ∷ frontierFits ∷ holesFew ∷ holePagesFew ∷ heldGives m ∷ countReads
 
 unfoldable pub giveReads : List ℕ → ℕ → List Use
 giveReads b m = givenReads m ++ neighboursReads 0 (get b (arena holes))
@@ -117,7 +117,8 @@ parkReads b c sh f count =
 -- ---- a take
 unfoldable pub takeReads : List ℕ → ℕ → Shape → List Use
 takeReads b c sh =
-    frontierFits
+    formatIs
+    ∷ frontierFits
     ∷ cond (not (eqb (get b (class partial c)) 0)) (walkReads b c sh (sh .batch) (sh .batch) (partialOf c) 0)
     (code (partialOf c)
     ∷ cond (not (eqb (get b (class empty c)) 0)) (parkReads b c sh (emptyOf c) (emptyTaken c))
@@ -161,7 +162,8 @@ rowReads c = code (partialOf c) ∷ code (emptyOf c) ∷ emptyFew c ∷ code (co
 
 unfoldable pub releaseReads : List ℕ → ℕ → Shape → ℕ → ℕ → List Use
 releaseReads b c sh m q =
-    frontierFits
+    formatIs
+    ∷ frontierFits
     ∷ (backReads b sh m q
     ++ (rowReads c
     ++ cond (eqb (get b (page free q) + m) (get b (page carved q)) && isArena (destinationAt b c sh)) (giveReads b (sh .pages)) []))
@@ -172,7 +174,8 @@ backsReads b sh (g ∷ gs) = backReads b sh (countOf g) (pageOf g) ++ backsReads
 
 unfoldable pub chunksReads : List ℕ → ℕ → Shape → List ℕ → List Use
 chunksReads b c sh gs =
-    frontierFits
+    formatIs
+    ∷ frontierFits
     ∷ (backsReads b sh gs
     ++ (rowReads c
     ++ cond (eqb (pagesGiven b c sh gs) 0) [] (giveReads b (pagesGiven b c sh gs))))
@@ -183,4 +186,4 @@ stockReads c = stockFew c ∷ []
 
 -- the block on top, where there is one
 unfoldable pub topReads : List ℕ → ℕ → List Use
-topReads b c = stockFew c ∷ entryLow c (countIn b c - 1) ∷ []
+topReads b c = formatIs ∷ stockFew c ∷ entryLow c (countIn b c - 1) ∷ []

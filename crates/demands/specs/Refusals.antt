@@ -49,7 +49,7 @@ use Rattle.vigbuso.specs.Direct.{openOn, commitOn, CommitEnds, growOn, GrowEnds
 use Rattle.vigbuso.specs.Blocks as Blocks
 use Rattle.vigbuso.specs.Blocks.{takeOn, TakeEnds, ReleaseEnds, chunksOn, ChunksEnds}
 use Rattle.vigbuso.specs.Sizes.{SizeEnds}
-use Rattle.demands.specs.Ranges.{stateKnown, inRange, strays}
+use Rattle.demands.specs.Ranges.{stateKnown, strays, formatIs}
 use Rattle.demands.specs.Reads.{commitReads, giveReads, reportReads, takeReads, barren, markReads, releaseReads, chunksReads, growReads}
 
 -- ---- when each number applies
@@ -165,7 +165,7 @@ reportTable b =
 abbrev pub containsTable : List ℕ → List Row
 containsTable b =
     let n = get b (arena size) in
-    (1, badLength n) ∷ (2, tooShort n b) ∷ (13, not (inRange b stateKnown)) ∷ []
+    (1, badLength n) ∷ (2, tooShort n b) ∷ (13, strays b (stateKnown ∷ formatIs ∷ [])) ∷ []
 
 -- vigbuso_take_blocks, with class ids from 0 on and 64 classes; vigbuso_medium_take_blocks, with ids from 64 on and 12 classes
 abbrev pub takeTable : ℕ → ℕ → List ℕ → ℕ → ℕ → List ℕ → List Row

@@ -16,7 +16,7 @@ use lib.Dec.{eqb}
 use Rattle.facts.specs.Lists.{every, distinct, count}
 use Rattle.words.specs.Limits.{classRows}
 use Rattle.classes.specs.declared.Shape.{Shape}
-use Rattle.classes.specs.Shape.{shapeOf}
+use Rattle.classes.specs.Shape.{shapeOf, classCount, poolId}
 use Rattle.fields.specs.Field.{arena, mark, size, get}
 use Rattle.model.specs.Calls as Calls
 use Rattle.model.specs.Calls.{Call}
@@ -38,6 +38,8 @@ callBy fault b (Calls.takeBlocks c h l) = call b (Calls.takeBlocks c h l)
 callBy fault b (Calls.mediumTakeBlocks c h l) = call b (Calls.mediumTakeBlocks c h l)
 callBy fault b (Calls.releaseBlocks c h ws) = listReply (releaseOnBy (releaseBy fault) 0 64 b c h ws)
 callBy fault b (Calls.mediumReleaseBlocks c h ws) = listReply (releaseOnBy (releaseBy fault) 64 12 b c h ws)
+callBy fault b (Calls.pooledTake c h l) = call b (Calls.pooledTake c h l)
+callBy fault b (Calls.pooledRelease c h ws) = listReply (releaseOnBy (releaseBy fault) classCount classCount b c h ws)
 callBy fault b (Calls.releaseBinChunks c h ws gs fs) = chunksReply (chunksOnBy (releaseChunksBy fault) b c h ws gs fs)
 callBy fault b (Calls.commit h m) = call b (Calls.commit h m)
 callBy fault b (Calls.growFrontier h q old new) = call b (Calls.growFrontier h q old new)
@@ -55,6 +57,8 @@ reachedBy t b (Calls.takeBlocks c h l) = false
 reachedBy t b (Calls.mediumTakeBlocks c h l) = false
 reachedBy t b (Calls.releaseBlocks c h ws) = eqb (firstNumber (releaseEarly 0 64 b c h ws)) 0 && t (get b (arena size)) b (0 + c) (shapeOf (0 + c)) ws
 reachedBy t b (Calls.mediumReleaseBlocks c h ws) = eqb (firstNumber (releaseEarly 64 12 b c h ws)) 0 && t (get b (arena size)) b (64 + c) (shapeOf (64 + c)) ws
+reachedBy t b (Calls.pooledTake c h l) = false
+reachedBy t b (Calls.pooledRelease c h ws) = eqb (firstNumber (releaseEarly classCount classCount b c h ws)) 0 && t (get b (arena size)) b (poolId c) (shapeOf (poolId c)) ws
 reachedBy t b (Calls.releaseBinChunks c h ws gs fs) = eqb (firstNumber (chunksEarly b c h ws gs fs)) 0 && t (get b (arena size)) b c (shapeOf c) ws
 reachedBy t b (Calls.commit h m) = false
 reachedBy t b (Calls.growFrontier h q old new) = false

@@ -10,6 +10,7 @@ use Rattle.fields.specs.Field.{arena, class, frontier, state, held, emptyLimit,
 use Rattle.rules.specs.declared.Limits.{Limits}
 use Rattle.rules.specs.Rules.{rulesOf}
 use Rattle.fields.proofs.Laws.{length-put}
+use Rattle.fields.specs.Ranges.{formatValid}
 use Rattle.model.specs.Heap.{badRun, badGrowth, direct}
 use Rattle.model.specs.Arena as Model
 use Rattle.runs.specs.declared.Arena.{Arena}
@@ -73,7 +74,7 @@ growth-more old new t e v = by-cases (leb new old) (λ z. absurd (bad (simp (z, 
 
 -- ---- opening
 pub record Clearing (b₀ b : List ℕ) (i : ℕ) : Type 0 where
-  pub within : i ≤ 768
+  pub within : i ≤ 1376
   pub long : length b ≡ length b₀
   pub rest : b ≡ cleared b₀ i
 
@@ -81,15 +82,15 @@ pub clear-start : (b : List ℕ) → Clearing b b 0
 unfolding cleared
 clear-start b = record { within = omega arith; long = refl; rest = refl }
 
-pub clear-again : (b₀ b : List ℕ) (i : ℕ) → Clearing b₀ b i → i < 768 → Clearing b₀ (set b i 0) (i + 1)
+pub clear-again : (b₀ b : List ℕ) (i : ℕ) → Clearing b₀ b i → i < 1376 → Clearing b₀ (set b i 0) (i + 1)
 unfolding cleared
 clear-again b₀ b i k l =
     let z : i + 1 ≡ suc i = omega arith in
     rw z (record { within = omega arith; long = length-set b i 0 ∙ k .long; rest = ap (λ x. set x i 0) (k .rest) })
 
-pub clear-done : (b₀ b : List ℕ) (i : ℕ) → Clearing b₀ b i → 768 ≤ i → b ≡ cleared b₀ headWords
+pub clear-done : (b₀ b : List ℕ) (i : ℕ) → Clearing b₀ b i → 1376 ≤ i → b ≡ cleared b₀ headWords
 unfolding headWords
-clear-done b₀ b i k l = let z : i ≡ 768 = (let y = k .within in omega arith) in rw z at (k .rest)
+clear-done b₀ b i k l = let z : i ≡ 1376 = (let y = k .within in omega arith) in rw z at (k .rest)
 
 -- ---- the limits of the first c classes
 module _ (b₀ rows : List ℕ) where
@@ -121,19 +122,23 @@ module _ (n : ℕ) (b : List ℕ) (o k : ℕ) where
   not-ready (suc zero) d = absurd (d refl)
   not-ready (suc (suc s)) d = refl
 
+  pub contains-strange : (t : Bool) → t ≡ formatValid b → not t ≡ true → false ≡ containsCall n b o k
+  unfolding containsCall
+  contains-strange t e d = rw (← e, not-true t d)
+
   pub contains-off : (s : ℕ) → s ≡ get b (arena state) → (s ≡ 1 → ⊥) → false ≡ containsCall n b o k
   unfolding containsCall Model.contains loadArena
-  contains-off s e d = rw (← e, not-ready s d)
+  contains-off s e d = rw (← e, not-ready s d) (simp and-no)
 
   pub contains-past : (s : ℕ) → s ≡ get b (arena state) → s ≡ 1 → n * 65536 < o → false ≡ containsCall n b o k
   unfolding containsCall Model.contains loadArena
   contains-past s e v l = rw (← e, v) (simp (lt-leb (o + k) (n * 65536) (omega arith), and-no))
 
-  pub contains-is : (s : ℕ) → BookIn b n → s ≡ get b (arena state) → s ≡ 1 → o ≤ n * 65536 → leb k (n * 65536 - o) ≡ containsCall n b o k
+  pub contains-is : (t : Bool) (s : ℕ) → t ≡ formatValid b → not t ≡ false → BookIn b n → s ≡ get b (arena state) → s ≡ 1 → o ≤ n * 65536 → leb k (n * 65536 - o) ≡ containsCall n b o k
   unfolding containsCall Model.contains loadArena
-  contains-is s r e v l =
+  contains-is t s g f r e v l =
       let z = r .small in
-      rw (← e, v)
+      rw (← g, not-false t f, ← e, v)
       (by-cases (leb k (n * 65536 - o))
       (λ t. let y = leb-true k (n * 65536 - o) t in rw (t, lt-ltb (o + k) (2 ^ 64) (omega arith), le-leb (o + k) (n * 65536) (omega arith)))
       (λ t. let y = leb-false k (n * 65536 - o) t in rw t (simp (lt-leb (o + k) (n * 65536) (omega arith), and-no))))

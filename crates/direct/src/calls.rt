@@ -126,6 +126,9 @@ pub fn contains(meta: &[u32], size: u32, offset: u64, length: u64) -> bool
     requires { ⌜ BookIn (now meta) size ⌝ }
     ensures { λ r. ⌜ r ≡ containsCall size (now (meta .entry)) offset length ⌝ }
 {
+    if !fields::fault::format_valid(meta) {
+        return false;
+    }
     if fields::arena::state(meta) != 1 {
         return false;
     }

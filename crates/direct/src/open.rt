@@ -1,4 +1,4 @@
-// Opening: 0 in the first 768 words, then the arena's length and the limits of every class.
+// Opening: 0 in the first 1376 words, then the arena's length, the format and the limits of every class.
 ghost use mathlib.Core.Path.{_≡_};
 ghost use Prim.Native.Nat.{_≤_};
 ghost use lib.ListN.{length};
@@ -6,13 +6,14 @@ ghost use Rattle.words.specs.Limits.{classRows};
 ghost use Rattle.rules.specs.Rules.{rulesOf};
 ghost use Rattle.arena.specs.Open.{cleared, headWords, ruled, opened};
 use classes::CLASS_ROWS;
+use words::limits::BOOK_FORMAT;
 
 fn clear_head(meta: &mut [u32])
     requires { ⌜ 40000 ≤ length (now meta) ⌝ }
     ensures { λ _. ⌜ now (meta .exit) ≡ cleared (now (meta .entry)) headWords ⌝ }
 {
     let mut i = 0;
-    while i < 768 {
+    while i < 1376 {
         meta[i] = 0;
         i += 1;
     }
@@ -37,5 +38,6 @@ pub fn open(meta: &mut [u32], pages: u32, rows: &[u32])
 {
     clear_head(meta);
     fields::arena::set_size(meta, pages);
+    fields::arena::set_format(meta, BOOK_FORMAT);
     set_rules(meta, rows);
 }

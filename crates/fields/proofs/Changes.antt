@@ -4,13 +4,13 @@
 --     Changes t b b′ the book b′ has the length of b, and every field with t false has the value that it has in b
 --     changes-put    a write to a field with t true is such a change: t computes at the field's name, so the condition is `refl` or one equation
 use Rattle.facts.proofs.Prelude.{ℕ, Bool, true, false, true≢false, List, [], _∷_, map, _≡_, refl, sym, ap, _∙_, eqb, length, getD, eqb-true, and-left, and-right}
-use Rattle.fields.specs.Field.{Field, arena, mark, class, hole, page, out, slot, size, state, frontier, holes, holePages, commits, commitsHigh, reuses, reusesHigh, abandoned, abandonedHigh, held, partial, empty, emptyCount, cold, coldCount, emptyLimit, coldLimit, start, pages, owner, first, next, prev, free, carved, listed, virgin, tally, region, off, block, row, get, put, same, ok}
+use Rattle.fields.specs.Field.{Field, arena, mark, class, hole, page, out, slot, size, state, frontier, holes, holePages, commits, commitsHigh, reuses, reusesHigh, abandoned, abandonedHigh, held, format, partial, empty, emptyCount, cold, coldCount, emptyLimit, coldLimit, start, pages, owner, first, next, prev, free, carved, listed, virgin, tally, region, off, block, row, get, put, same, ok}
 use Rattle.fields.proofs.Laws.{get-put-other, length-put}
 
 -- ---- a field from its four numbers
 makers : List (List (ℕ → ℕ → Field))
 makers =
-    map (λ k i r. arena k) (size ∷ state ∷ frontier ∷ holes ∷ holePages ∷ commits ∷ commitsHigh ∷ reuses ∷ reusesHigh ∷ abandoned ∷ abandonedHigh ∷ held ∷ [])
+    map (λ k i r. arena k) (size ∷ state ∷ frontier ∷ holes ∷ holePages ∷ commits ∷ commitsHigh ∷ reuses ∷ reusesHigh ∷ abandoned ∷ abandonedHigh ∷ held ∷ format ∷ [])
     ∷ ((λ i r. mark r i) ∷ [])
     ∷ map (λ k i r. class k r) (partial ∷ empty ∷ emptyCount ∷ cold ∷ coldCount ∷ emptyLimit ∷ coldLimit ∷ [])
     ∷ map (λ k i r. hole k r) (start ∷ pages ∷ [])
@@ -36,6 +36,7 @@ made (arena reusesHigh) = refl
 made (arena abandoned) = refl
 made (arena abandonedHigh) = refl
 made (arena held) = refl
+made (arena format) = refl
 made (mark p j) = refl
 made (class partial c) = refl
 made (class empty c) = refl

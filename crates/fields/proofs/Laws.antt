@@ -14,7 +14,7 @@ use Rattle.fields.specs.Field.{Field, arena, mark, class, hole, page, ou
 use Rattle.fields.proofs.Parts.{Split, below, above, holdable, read-place, read-small, place-read, place-place, read-place-other, place-comm}
 
 -- ---- the offsets
-pub arenaOff-lt : (k : ArenaField) → arenaOff k < 12
+pub arenaOff-lt : (k : ArenaField) → arenaOff k < 13
 arenaOff-lt ArenaField.size = omega arith
 arenaOff-lt ArenaField.state = omega arith
 arenaOff-lt ArenaField.frontier = omega arith
@@ -27,6 +27,7 @@ arenaOff-lt ArenaField.reusesHigh = omega arith
 arenaOff-lt ArenaField.abandoned = omega arith
 arenaOff-lt ArenaField.abandonedHigh = omega arith
 arenaOff-lt ArenaField.held = omega arith
+arenaOff-lt ArenaField.format = omega arith
 
 -- the last word of a row has no field
 pub classOff-lt : (k : ClassField) → classOff k < 7

@@ -7,7 +7,7 @@
 --     room          the value is one that the field can hold
 --     words         the words of a book
 -- A mark (document 02, A.3) is a bit of a page's words 144 to 271; its field is the whole word, 32 blocks' marks, since marks are cleared so.
--- Words 12 to 159 have no field.
+-- Words 13 to 159 have no field.
 use Prim.Native.Nat.{ℕ, _+_, _-_, _*_, _/_, _%_, _^_, _<_}
 use mathlib.Core.Bool.{Bool, true, cond, _&&_}
 use mathlib.Core.List.{List}
@@ -17,7 +17,7 @@ use Rattle.words.specs.Limits.{holeSlots, classRows}
 
 -- `size` is the arena's length in pages, the word LENGTH (`length` is a list's); a count is 64 bits, in two words
 pub data ArenaField : Type 0 where
-  size state frontier holes holePages commits commitsHigh reuses reusesHigh abandoned abandonedHigh held : ArenaField
+  size state frontier holes holePages commits commitsHigh reuses reusesHigh abandoned abandonedHigh held format : ArenaField
 
 pub data ClassField : Type 0 where
   partial empty emptyCount cold coldCount emptyLimit coldLimit : ClassField
@@ -51,6 +51,7 @@ arenaOff reusesHigh = 8
 arenaOff abandoned = 9
 arenaOff abandonedHigh = 10
 arenaOff held = 11
+arenaOff format = 12
 
 abbrev pub classOff : ClassField → ℕ
 classOff partial = 0
@@ -89,7 +90,7 @@ abbrev pub word : Field → ℕ
 word (arena k) = arenaOff k
 word (mark p j) = 40144 + 4112 * p + j
 word (class k c) = 160 + 8 * c + classOff k
-word (hole k i) = 1024 + 2 * i + holeOff k
+word (hole k i) = 2048 + 2 * i + holeOff k
 word (page k p) = pageWord k p
 word (out p i) = 40016 + 4112 * p + i / 32
 word (slot p i) = 40272 + 4112 * p + i / 2

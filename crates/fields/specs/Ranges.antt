@@ -2,6 +2,7 @@
 -- demands/specs/Ranges.
 --     Range, within    a range, and whether a value is in it
 --     metaFault        numbers 1 and 2: the first that applies to a book, or 0
+--     formatValid      of number 13: an opening of this layout made the book; headValid, and FRONTIER is within an arena of n pages
 use Prim.Native.Nat.{ℕ, _+_, _-_}
 use mathlib.Core.Bool.{Bool, true, _&&_, cond}
 use mathlib.Core.List.{List}
@@ -9,7 +10,8 @@ use mathlib.Core.Path.{_≡_}
 use lib.Dec.{eqb, leb, ltb}
 use lib.ListN.{length}
 pub use Rattle.words.specs.Limits.{maxPages, maxParked}
-use Rattle.fields.specs.Field.{arena, size, words, get}
+use Rattle.words.specs.Limits.{bookFormat}
+use Rattle.fields.specs.Field.{arena, size, frontier, format, words, get}
 
 -- any value; 0 to n; m to n; n alone; 0 to n - 1; at most n with m more; a code whose run of m pages ends at n or below
 pub data Range : Type 0 where
@@ -42,3 +44,10 @@ metaFault b = lengthFault (get b (arena size)) (length b)
 pub record Sound (b : List ℕ) : Type 0 where
   pub sized : within (between 1 maxPages) (get b (arena size)) ≡ true
   pub long : leb (words (get b (arena size))) (length b) ≡ true
+
+-- ---- of number 13, what every call but an opening tests
+unfoldable pub formatValid : List ℕ → Bool
+formatValid b = eqb (get b (arena format)) bookFormat
+
+unfoldable pub headValid : ℕ → List ℕ → Bool
+headValid n b = formatValid b && leb (get b (arena frontier)) n

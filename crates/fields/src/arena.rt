@@ -1,7 +1,7 @@
 // The arena's words: its length, the reservation, the frontier, how many holes and pages in them, three counts, the pages held.
 ghost use mathlib.Core.Path.{_≡_};
 ghost use Prim.Native.Nat.{_+_, _*_, _^_};
-ghost use Rattle.fields.specs.Field.{arena, size, state, frontier, holes, holePages, held, commits, commitsHigh, reuses, reusesHigh, abandoned, abandonedHigh, Has, get, put};
+ghost use Rattle.fields.specs.Field.{arena, size, format, state, frontier, holes, holePages, held, commits, commitsHigh, reuses, reusesHigh, abandoned, abandonedHigh, Has, get, put};
 ghost use Rattle.fields.specs.Wide.{getWide, putWide};
 
 pub fn size(meta: &[u32]) -> u32
@@ -44,6 +44,20 @@ pub fn set_frontier(meta: &mut [u32], v: u32)
     ensures { λ _. ⌜ now (meta .exit) ≡ put (now (meta .entry)) (arena frontier) v ⌝ }
 {
     meta[2] = v;
+}
+
+pub fn format(meta: &[u32]) -> u32
+    requires { ⌜ Has (now meta) (arena format) ⌝ }
+    ensures { λ r. ⌜ r ≡ get (now (meta .entry)) (arena format) ⌝ }
+{
+    meta[12]
+}
+
+pub fn set_format(meta: &mut [u32], v: u32)
+    requires { ⌜ Has (now meta) (arena format) ⌝ }
+    ensures { λ _. ⌜ now (meta .exit) ≡ put (now (meta .entry)) (arena format) v ⌝ }
+{
+    meta[12] = v;
 }
 
 pub fn holes(meta: &[u32]) -> u32

@@ -6,9 +6,9 @@ ghost use Rattle.fields.specs.Field.{hole, start, pages, Has, get, put};
 // Word k of hole i.
 fn hole_word(i: u32, k: usize) -> usize
     requires { ⌜ k < 2 ⌝ }
-    ensures { λ r. ⌜ r ≡ 1024 + 2 * i + k ⌝ }
+    ensures { λ r. ⌜ r ≡ 2048 + 2 * i + k ⌝ }
 {
-    1024 + 2 * (i as usize) + k
+    2048 + 2 * (i as usize) + k
 }
 
 pub fn start(meta: &[u32], i: u32) -> u32

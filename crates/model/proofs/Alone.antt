@@ -58,7 +58,7 @@ serve-tells g g′ is-done f f′ e = f ∙ sym f′
 serve-tells g g′ (is-asked s) f f′ e = s g g′ e
 
 -- a class by itself: its calls and what it is given
-abbrev ask : Limits → ℕ → Class → Way → Ask
+abbrev pub ask : Limits → ℕ → Class → Way → Ask
 ask lim c s turned = refuse s 3
 ask lim c s straight = refuse s 4
 ask lim c s (toClass d) = answer (shapeOf c) lim s (d .request)
@@ -108,6 +108,8 @@ direct-keeps size H (Calls.takeBlocks c h l) = search
 direct-keeps size H (Calls.mediumTakeBlocks c h l) = search
 direct-keeps size H (Calls.releaseBlocks c h ws) = search
 direct-keeps size H (Calls.mediumReleaseBlocks c h ws) = search
+direct-keeps size H (Calls.pooledTake c h l) = search
+direct-keeps size H (Calls.pooledRelease c h ws) = search
 direct-keeps size H (Calls.releaseBinChunks c h ws gs fs) = search
 direct-keeps size H (Calls.commit h n) = search keeps-cond
 direct-keeps size H (Calls.growFrontier h q old new) = search keeps-cond
@@ -152,7 +154,7 @@ module _ (size : ℕ) (H : Heap) where
         fits = f;
       }
 
-  own : (c : ℕ) (x : Call) {w : Way} → Goes x w → isOf c (names x) ≡ true → Own c (route size H x w) (ask (H .rules c) c (H .classes c) w)
+  pub own : (c : ℕ) (x : Call) {w : Way} → Goes x w → isOf c (names x) ≡ true → Own c (route size H x w) (ask (H .rules c) c (H .classes c) w)
   own c x (is-turned t) e = record { gift = none; run = refl; class = refl; answer = refl; fits = refl }
   own c x (is-straight t n) e = absurd (false≢true (rw n at e))
   own c x (is-class d t n) e =

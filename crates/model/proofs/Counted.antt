@@ -314,6 +314,8 @@ module _ (size n : ℕ) (H : Heap) (es : List Entry) (f : ℕ → Bool) (l : ℕ
   direct-observed (Calls.mediumTakeBlocks c h ws) = direct-refused _ 4
   direct-observed (Calls.releaseBlocks c h ws) = direct-refused _ 4
   direct-observed (Calls.mediumReleaseBlocks c h ws) = direct-refused _ 4
+  direct-observed (Calls.pooledTake c h ws) = direct-refused _ 4
+  direct-observed (Calls.pooledRelease c h ws) = direct-refused _ 4
   direct-observed (Calls.releaseBinChunks c h ws gs fs) = direct-refused _ 4
   direct-observed (Calls.commit h m) = search (sums-cond, direct-refused, direct-commit)
   direct-observed (Calls.growFrontier h q old new) = search (sums-cond, direct-refused, direct-grow)

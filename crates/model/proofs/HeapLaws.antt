@@ -239,6 +239,8 @@ module _ (size n : ℕ) (H : Heap) (es : List Entry) (f : ℕ → Bool) (l : ℕ
   direct-next (Calls.mediumTakeBlocks c h ws) = next-same _ _ (λ y. refl) (λ y. refl)
   direct-next (Calls.releaseBlocks c h ws) = next-same _ _ (λ y. refl) (λ y. refl)
   direct-next (Calls.mediumReleaseBlocks c h ws) = next-same _ _ (λ y. refl) (λ y. refl)
+  direct-next (Calls.pooledTake c h ws) = next-same _ _ (λ y. refl) (λ y. refl)
+  direct-next (Calls.pooledRelease c h ws) = next-same _ _ (λ y. refl) (λ y. refl)
   direct-next (Calls.releaseBinChunks c h ws gs fs) = next-same _ _ (λ y. refl) (λ y. refl)
   direct-next (Calls.commit h m) = search (next-cond, next-same, next-commit)
   direct-next (Calls.growFrontier h q old new) = search (next-cond, next-same, next-grow)
@@ -251,6 +253,8 @@ module _ (size n : ℕ) (H : Heap) (es : List Entry) (f : ℕ → Bool) (l : ℕ
   class-quiet (Calls.mediumTakeBlocks c h ws) d e a y = refl
   class-quiet (Calls.releaseBlocks c h ws) d e a y = refl
   class-quiet (Calls.mediumReleaseBlocks c h ws) d e a y = refl
+  class-quiet (Calls.pooledTake c h ws) d e a y = refl
+  class-quiet (Calls.pooledRelease c h ws) d e a y = refl
   class-quiet (Calls.releaseBinChunks c h ws gs fs) d e a y = refl
   class-quiet (Calls.commit h m) d e a y = absurd (Option·none-ne-some d e)
   class-quiet (Calls.growFrontier h q old new) d e a y = absurd (Option·none-ne-some d e)
@@ -259,11 +263,13 @@ module _ (size n : ℕ) (H : Heap) (es : List Entry) (f : ℕ → Bool) (l : ℕ
   class-quiet Calls.report d e a y = absurd (Option·none-ne-some d e)
 
   -- a refused call tells of no page held, and of no entry
-  refused-quiet : (x : Call) (k y : ℕ) → directNext x (Calls.refused k) f y ≡ f y
+  pub refused-quiet : (x : Call) (k y : ℕ) → directNext x (Calls.refused k) f y ≡ f y
   refused-quiet (Calls.takeBlocks c h ws) k y = refl
   refused-quiet (Calls.mediumTakeBlocks c h ws) k y = refl
   refused-quiet (Calls.releaseBlocks c h ws) k y = refl
   refused-quiet (Calls.mediumReleaseBlocks c h ws) k y = refl
+  refused-quiet (Calls.pooledTake c h ws) k y = refl
+  refused-quiet (Calls.pooledRelease c h ws) k y = refl
   refused-quiet (Calls.releaseBinChunks c h ws gs fs) k y = refl
   refused-quiet (Calls.commit h m) k y = refl
   refused-quiet (Calls.growFrontier h q old new) k y = refl

@@ -32,6 +32,8 @@ class-hands (Calls.takeBlocks c h ws) d e = (refl, refl)
 class-hands (Calls.mediumTakeBlocks c h ws) d e = (refl, refl)
 class-hands (Calls.releaseBlocks c h ws) d e = (refl, refl)
 class-hands (Calls.mediumReleaseBlocks c h ws) d e = (refl, refl)
+class-hands (Calls.pooledTake c h ws) d e = (refl, refl)
+class-hands (Calls.pooledRelease c h ws) d e = (refl, refl)
 class-hands (Calls.releaseBinChunks c h ws gs fs) d e = (refl, refl)
 class-hands (Calls.commit h m) d e = absurd (Option·none-ne-some d e)
 class-hands (Calls.growFrontier h q old new) d e = absurd (Option·none-ne-some d e)
@@ -172,6 +174,8 @@ module _ (size n : ℕ) (H : Heap) (es : List Entry) (f : ℕ → Bool) (l : ℕ
   direct-keeps (Calls.mediumTakeBlocks c h ws) = direct-same _ _ refl refl
   direct-keeps (Calls.releaseBlocks c h ws) = direct-same _ _ refl refl
   direct-keeps (Calls.mediumReleaseBlocks c h ws) = direct-same _ _ refl refl
+  direct-keeps (Calls.pooledTake c h ws) = direct-same _ _ refl refl
+  direct-keeps (Calls.pooledRelease c h ws) = direct-same _ _ refl refl
   direct-keeps (Calls.releaseBinChunks c h ws gs fs) = direct-same _ _ refl refl
   direct-keeps (Calls.commit h m) = search (direct-cond, direct-same, direct-commit)
   direct-keeps (Calls.growFrontier h q old new) = search (direct-cond, direct-same, direct-grow)

@@ -109,6 +109,8 @@ module _ (size : ℕ) (H : Heap) (once : Once (H .arena)) (k : Tidy (H .arena .s
   tidy-direct (Calls.mediumTakeBlocks c h l) = same _
   tidy-direct (Calls.releaseBlocks c h ws) = same _
   tidy-direct (Calls.mediumReleaseBlocks c h ws) = same _
+  tidy-direct (Calls.pooledTake c h l) = same _
+  tidy-direct (Calls.pooledRelease c h ws) = same _
   tidy-direct (Calls.releaseBinChunks c h ws gs fs) = same _
   tidy-direct (Calls.commit h n) = search (after-cond, same, commit-tidy) depth 9
   tidy-direct (Calls.growFrontier h q old new) = search (after-cond, same, grow-tidy) depth 9

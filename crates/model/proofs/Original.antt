@@ -91,6 +91,8 @@ module _ (size : ℕ) (H : Heap) (m : Memory) (d : Apart (H .arena .store .holes
   direct-same (Calls.mediumTakeBlocks c h l) = same m _
   direct-same (Calls.releaseBlocks c h ws) = same m _
   direct-same (Calls.mediumReleaseBlocks c h ws) = same m _
+  direct-same (Calls.pooledTake c h l) = same m _
+  direct-same (Calls.pooledRelease c h ws) = same m _
   direct-same (Calls.releaseBinChunks c h ws gs fs) = same m _
   direct-same (Calls.commit h n) = search (follows-cond, same, commit-call) depth 9
   direct-same (Calls.growFrontier h q old new) = search (follows-cond, same, grow-call) depth 9

@@ -5,7 +5,7 @@ use Rattle.facts.proofs.Prelude.{ℕ, suc, _+_, _-_, _*_, _^_, _≤_, arith, Bo
 use Rattle.facts.proofs.Prelude.{refl, sym, ap, _∙_, subst, leb, ltb, length, eqb-true, ltb-true, leb-true, lt-ltb, le-leb, total, by-cases, and-left, and-right, and-no, nor-left}
 use Rattle.words.specs.Host.{reservationGranted, commitGranted}
 use Rattle.classes.specs.declared.Shape.{Shape}
-use Rattle.classes.specs.Shape.{shapeOf}
+use Rattle.classes.specs.Shape.{shapeOf, classCount, poolId}
 use Rattle.classes.specs.Sizes.{pageBytes}
 use Rattle.classes.proofs.Shapes.{shape-sound}
 use Rattle.rules.specs.declared.Limits.{Limits}
@@ -130,6 +130,8 @@ wants (Calls.takeBlocks c h l) d e = named-wants _ (ltb c 64) c _ d e (a-take re
 wants (Calls.mediumTakeBlocks c h l) d e = named-wants _ (ltb c 12) (64 + c) _ d e (a-take refl)
 wants (Calls.releaseBlocks c h ws) d e = named-wants _ (ltb c 64) c _ d e (a-list refl)
 wants (Calls.mediumReleaseBlocks c h ws) d e = named-wants _ (ltb c 12) (64 + c) _ d e (a-list refl)
+wants (Calls.pooledTake c h l) d e = named-wants _ (ltb c classCount) (poolId c) _ d e (a-take refl)
+wants (Calls.pooledRelease c h ws) d e = named-wants _ (ltb c classCount) (poolId c) _ d e (a-list refl)
 wants (Calls.releaseBinChunks c h ws gs fs) d e = named-wants _ (ltb c 64) c _ d e (some-chunks refl)
 wants (Calls.commit h m) d e = absurd (Option·none-ne-some d e)
 wants (Calls.growFrontier h q old new) d e = absurd (Option·none-ne-some d e)
@@ -266,6 +268,8 @@ module _ (size n : ℕ) (H : Heap) (es : List Entry) (f : ℕ → Bool) (l : ℕ
   direct-tells (Calls.mediumTakeBlocks c h ws) = direct-refused _ 4
   direct-tells (Calls.releaseBlocks c h ws) = direct-refused _ 4
   direct-tells (Calls.mediumReleaseBlocks c h ws) = direct-refused _ 4
+  direct-tells (Calls.pooledTake c h ws) = direct-refused _ 4
+  direct-tells (Calls.pooledRelease c h ws) = direct-refused _ 4
   direct-tells (Calls.releaseBinChunks c h ws gs fs) = direct-refused _ 4
   direct-tells (Calls.commit h m) = search (settles-cond, direct-refused, direct-commit)
   direct-tells (Calls.growFrontier h q old new) = search (settles-cond, direct-refused, direct-grow)
@@ -319,6 +323,8 @@ module _ (size : ℕ) (H : Heap) (low : Untouched (H .arena)) where
   low-direct (Calls.mediumTakeBlocks c h ws) = low-same _
   low-direct (Calls.releaseBlocks c h ws) = low-same _
   low-direct (Calls.mediumReleaseBlocks c h ws) = low-same _
+  low-direct (Calls.pooledTake c h ws) = low-same _
+  low-direct (Calls.pooledRelease c h ws) = low-same _
   low-direct (Calls.releaseBinChunks c h ws gs fs) = low-same _
   low-direct (Calls.commit h m) = search (low-cond, low-same, low-commit)
   low-direct (Calls.growFrontier h q old new) = search (low-cond, low-same, low-grow)

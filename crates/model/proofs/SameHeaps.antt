@@ -100,6 +100,8 @@ module _ (size : ℕ) (H : Heap) (b : Arena) (s : SameArena (H .arena) b) (k : S
   direct-same (Calls.mediumTakeBlocks c h l) = same _
   direct-same (Calls.releaseBlocks c h ws) = same _
   direct-same (Calls.mediumReleaseBlocks c h ws) = same _
+  direct-same (Calls.pooledTake c h l) = same _
+  direct-same (Calls.pooledRelease c h ws) = same _
   direct-same (Calls.releaseBinChunks c h ws gs fs) = same _
   direct-same (Calls.commit h n) = search (same-cond, same, commit-call) depth 9
   direct-same (Calls.growFrontier h q old new) = search (same-cond, same, grow-call) depth 9

@@ -6,7 +6,7 @@ use Rattle.facts.proofs.Prelude.{not-true, not-false, isNil, every, any, All, t
 use lib.ListN as ListN
 use Rattle.words.specs.Word.{pageOf}
 use Rattle.classes.specs.declared.Shape.{Shape}
-use Rattle.classes.specs.Shape.{shapeOf, smallShape, mediumShape}
+use Rattle.classes.specs.Shape.{shapeOf, smallShape, mediumShape, numberOf}
 use Rattle.classes.specs.way.Sound.{Sound}
 use Rattle.classes.proofs.Shapes.{shape-sound}
 use Rattle.rules.specs.declared.Limits.{Limits}
@@ -58,7 +58,7 @@ covered q z e =
 -- a small class's run is one page
 pub one-page : (c : ℕ) → isMedium (shapeOf c) ≡ false → shapeOf c .pages ≡ 1
 unfolding shapeOf smallShape mediumShape
-one-page c e = by-cases (ltb c 64) (λ a. rw a) (λ a. absurd (true≢false (rw a at e)))
+one-page c e = by-cases (ltb (numberOf c) 64) (λ a. rw a) (λ a. absurd (true≢false (rw a at e)))
 
 module _ (sh : Shape) where
   -- a run keeps its place, however it comes back

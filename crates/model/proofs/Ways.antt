@@ -3,6 +3,7 @@
 --     host-of    a call of a class brings its request's host word
 use Rattle.facts.proofs.Prelude.{ℕ, _+_, Bool, true, false, cond, Option, none, some, Option·none-ne-some, _≡_, refl, ap, ltb}
 use Rattle.words.specs.Host.{badHost}
+use Rattle.classes.specs.Shape.{classCount, poolId}
 use Rattle.model.specs.Calls as Calls
 use Rattle.model.specs.Calls.{Call, Named, named, names, hostIn, Request, hostOf, Way, turned, straight, toClass, wayTo, wayOf}
 
@@ -30,6 +31,8 @@ host-of (Calls.takeBlocks c h l) d e = named-host (ltb c 64) c _ d e
 host-of (Calls.mediumTakeBlocks c h l) d e = named-host (ltb c 12) (64 + c) _ d e
 host-of (Calls.releaseBlocks c h ws) d e = named-host (ltb c 64) c _ d e
 host-of (Calls.mediumReleaseBlocks c h ws) d e = named-host (ltb c 12) (64 + c) _ d e
+host-of (Calls.pooledTake c h l) d e = named-host (ltb c classCount) (poolId c) _ d e
+host-of (Calls.pooledRelease c h ws) d e = named-host (ltb c classCount) (poolId c) _ d e
 host-of (Calls.releaseBinChunks c h ws gs fs) d e = named-host (ltb c 64) c _ d e
 host-of (Calls.commit h m) d e = absurd (Option·none-ne-some d e)
 host-of (Calls.growFrontier h q old new) d e = absurd (Option·none-ne-some d e)

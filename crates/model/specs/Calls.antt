@@ -1,4 +1,5 @@
--- The calls of a history and their answers (document 01, "The histories of demand 3").
+-- The calls of a history and their answers (document 01, "The histories of demand 3"). Beside document 01's calls stand a take and a release of the pool's
+-- classes: no function of that name is exported, the pool's own calls make them (crate pool).
 use Prim.Native.Nat.{ℕ, _+_}
 use mathlib.Core.List.{List, []}
 use mathlib.Core.Option.{Option, none, some}
@@ -6,12 +7,14 @@ use mathlib.Core.Bool.{Bool, true, false, cond}
 use lib.Dec.{ltb}
 use lib.ListN as ListN
 use Rattle.words.specs.Host.{badHost}
+use Rattle.classes.specs.Shape.{classCount, poolId}
 use Rattle.model.specs.declared.Figures.{Figures}
 
 -- one constructor for each call; a list counts as what it holds when its call begins
 pub data Call : Type 0 where
   takeBlocks mediumTakeBlocks : (class host : ℕ) (list : List ℕ) → Call
   releaseBlocks mediumReleaseBlocks : (class host : ℕ) (list : List ℕ) → Call
+  pooledTake pooledRelease : (class host : ℕ) (list : List ℕ) → Call
   releaseBinChunks : (class host : ℕ) (list chunks fates : List ℕ) → Call
   commit : (host pages : ℕ) → Call
   growFrontier : (host first old new : ℕ) → Call
@@ -80,6 +83,8 @@ hostIn (takeBlocks c h l) = h
 hostIn (mediumTakeBlocks c h l) = h
 hostIn (releaseBlocks c h ws) = h
 hostIn (mediumReleaseBlocks c h ws) = h
+hostIn (pooledTake c h l) = h
+hostIn (pooledRelease c h ws) = h
 hostIn (releaseBinChunks c h ws gs fs) = h
 hostIn (commit h n) = h
 hostIn (growFrontier h q old new) = h
@@ -87,7 +92,7 @@ hostIn (release h q n) = h
 hostIn (contains o b) = 0
 hostIn report = 0
 
--- a class's call: its id (0 to 63 small, 64 to 75 medium) and what is asked
+-- a class's call: its id (of the heap's 0 to 63 small, 64 to 75 medium; of the pool's 76 more) and what is asked
 pub record Named : Type 0 where
   pub class : ℕ
   pub request : Request
@@ -102,12 +107,29 @@ names (takeBlocks c h l) = named (ltb c 64) c (take h l)
 names (mediumTakeBlocks c h l) = named (ltb c 12) (64 + c) (take h l)
 names (releaseBlocks c h ws) = named (ltb c 64) c (giveBack h ws)
 names (mediumReleaseBlocks c h ws) = named (ltb c 12) (64 + c) (giveBack h ws)
+names (pooledTake c h l) = named (ltb c classCount) (poolId c) (take h l)
+names (pooledRelease c h ws) = named (ltb c classCount) (poolId c) (giveBack h ws)
 names (releaseBinChunks c h ws gs fs) = named (ltb c 64) c (giveChunks h ws gs fs)
 names (commit h n) = none
 names (growFrontier h q old new) = none
 names (release h q n) = none
 names (contains o b) = none
 names report = none
+
+-- a call that the pool makes, and no caller
+abbrev pub isPooled : Call → Bool
+isPooled (takeBlocks c h l) = false
+isPooled (mediumTakeBlocks c h l) = false
+isPooled (releaseBlocks c h ws) = false
+isPooled (mediumReleaseBlocks c h ws) = false
+isPooled (pooledTake c h l) = true
+isPooled (pooledRelease c h ws) = true
+isPooled (releaseBinChunks c h ws gs fs) = false
+isPooled (commit h n) = false
+isPooled (growFrontier h q old new) = false
+isPooled (release h q n) = false
+isPooled (contains o b) = false
+isPooled report = false
 
 -- where a call goes: to the class that it names, else to the arena; by number 3, first of all, to neither
 pub data Way : Type 0 where

@@ -156,6 +156,8 @@ directCall size H (Calls.takeBlocks c h l) = noClass H
 directCall size H (Calls.mediumTakeBlocks c h l) = noClass H
 directCall size H (Calls.releaseBlocks c h ws) = noClass H
 directCall size H (Calls.mediumReleaseBlocks c h ws) = noClass H
+directCall size H (Calls.pooledTake c h l) = noClass H
+directCall size H (Calls.pooledRelease c h ws) = noClass H
 directCall size H (Calls.releaseBinChunks c h ws gs fs) = noClass H
 directCall size H (Calls.commit h n) =
     cond (badRun n) (unchanged H (refused 6)) (commitCall size H h n)

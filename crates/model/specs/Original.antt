@@ -78,6 +78,8 @@ directCall size H m (Calls.takeBlocks c h l) = asModel m (Heaps.directCall size 
 directCall size H m (Calls.mediumTakeBlocks c h l) = asModel m (Heaps.directCall size H (Calls.mediumTakeBlocks c h l))
 directCall size H m (Calls.releaseBlocks c h ws) = asModel m (Heaps.directCall size H (Calls.releaseBlocks c h ws))
 directCall size H m (Calls.mediumReleaseBlocks c h ws) = asModel m (Heaps.directCall size H (Calls.mediumReleaseBlocks c h ws))
+directCall size H m (Calls.pooledTake c h l) = asModel m (Heaps.directCall size H (Calls.pooledTake c h l))
+directCall size H m (Calls.pooledRelease c h ws) = asModel m (Heaps.directCall size H (Calls.pooledRelease c h ws))
 directCall size H m (Calls.releaseBinChunks c h ws gs fs) = asModel m (Heaps.directCall size H (Calls.releaseBinChunks c h ws gs fs))
 directCall size H m (Calls.commit h n) =
     cond (badRun n) (asModel m (unchanged H (refused 6))) (commitCall size H m h n)

@@ -17,13 +17,13 @@ small-pages c t s e h =
     let is : (t + ((shapeOf c .capacity + 63) / 64 - 1)) / ((shapeOf c .capacity + 63) / 64) ≡ pagesFor c t = small-is c t h in
     rw e (is, omega (arith, is, pages-low c t))
 
-pub medium-pages : (c t : ℕ) (s : Shape) → s ≡ shapeOf c → 64 ≤ c → (t * s .pages ≡ pagesFor c t) × (t * s .pages ≤ t * 8)
-medium-pages c t s e h =
-    let is : t * shapeOf c .pages ≡ pagesFor c t = medium-is c t h in
+pub medium-pages : (c t : ℕ) (s : Shape) → s ≡ shapeOf c → 64 ≤ c → c < classCount → (t * s .pages ≡ pagesFor c t) × (t * s .pages ≤ t * 8)
+medium-pages c t s e h k =
+    let is : t * shapeOf c .pages ≡ pagesFor c t = medium-is c t h k in
     rw e (is, omega (arith, is, pages-low c t))
 
-pub medium-fits : (c t : ℕ) (s : Shape) → s ≡ shapeOf c → 64 ≤ c → t ≤ sumMax → t * s .pages < 2 ^ 64
-medium-fits c t s e h l = omega (arith, medium-pages c t s e h)
+pub medium-fits : (c t : ℕ) (s : Shape) → s ≡ shapeOf c → 64 ≤ c → c < classCount → t ≤ sumMax → t * s .pages < 2 ^ 64
+medium-fits c t s e h k l = omega (arith, medium-pages c t s e h k)
 
 -- ---- sum_pages
 pub record SumInv (ss : List ℕ) (sum c : ℕ) : Type 0 where

@@ -2,10 +2,10 @@
 use Rattle.facts.proofs.Prelude.{ℕ, zero, suc, _+_, _-_, _*_, _≤_, _<_, arith, div-eq-of-lt-le, mul-le-mul}
 use Rattle.facts.proofs.Prelude.{true, false, _⊎_, inl, inr, _≡_, refl, sym, _∙_, ltb, lt-ltb, le-ltb, by-cases}
 use Rattle.classes.specs.declared.Shape.{Shape}
-use Rattle.classes.specs.Shape.{shapeOf, smallShape, mediumShape}
+use Rattle.classes.specs.Shape.{numberOf, shapeOf, smallShape, mediumShape}
 use Rattle.classes.specs.way.Sound.{Sound}
 use Rattle.classes.proofs.Shapes.{shape-sound}
-use Rattle.plan.specs.Plan.{ceil, pagesFor}
+use Rattle.plan.specs.Plan.{ceil, pagesFor, classCount}
 
 -- t takes and u more fill r runs of d takes
 pub data Split (d t : ℕ) : Type 0 where
@@ -47,11 +47,11 @@ per-some sh ok = go (per sh) (per-low (sh .batch) (sh .capacity) (ok .gives))
     go (suc d) h = omega arith
 
 -- one formula for both families
-small-run : (c : ℕ) → ltb c 64 ≡ true → (shapeOf c .batch ≡ 64) × (shapeOf c .pages ≡ 1)
+small-run : (c : ℕ) → ltb (numberOf c) 64 ≡ true → (shapeOf c .batch ≡ 64) × (shapeOf c .pages ≡ 1)
 unfolding shapeOf smallShape
 small-run c e = rw e (refl, refl)
 
-medium-run : (c : ℕ) → ltb c 64 ≡ false → shapeOf c .batch ≡ shapeOf c .capacity
+medium-run : (c : ℕ) → ltb (numberOf c) 64 ≡ false → shapeOf c .batch ≡ shapeOf c .capacity
 unfolding shapeOf mediumShape
 medium-run c e = rw e
 
@@ -60,7 +60,7 @@ unfolding pagesFor
 pages-are c t =
     let ok = shape-sound c in
     let cap = shapeOf c .capacity in
-    by-cases (ltb c 64)
+    by-cases (ltb (numberOf c) 64)
     (λ e. let s = small-run c e in rw (e, s .0, s .1) (omega arith))
     (λ e. let one : ceil cap (shapeOf c .batch) ≡ 1 = rw (medium-run c e) (ceil-is cap cap 1 0 (omega arith) (omega (arith, ok .blocks))) in
     rw (e, one, ceil-is 1 t t 0 (omega arith) (omega arith)))
@@ -103,11 +103,11 @@ module _ (c : ℕ) where
 -- the pages as the code has them, and a bound
 pub small-is : (c t : ℕ) → c < 64 → ceil t (ceil (shapeOf c .capacity) 64) ≡ pagesFor c t
 unfolding pagesFor
-small-is c t h = rw (lt-ltb c 64 h)
+small-is c t h = rw (lt-ltb c classCount (omega arith), lt-ltb c 64 h)
 
-pub medium-is : (c t : ℕ) → 64 ≤ c → t * shapeOf c .pages ≡ pagesFor c t
+pub medium-is : (c t : ℕ) → 64 ≤ c → c < classCount → t * shapeOf c .pages ≡ pagesFor c t
 unfolding pagesFor
-medium-is c t h = rw (le-ltb c 64 h)
+medium-is c t h l = rw (lt-ltb c classCount l, le-ltb c 64 h)
 
 runs-low : (d r t u : ℕ) → t + u ≡ r * d → u < d → r ≤ t
 runs-low d zero t u e l = omega arith

@@ -8,7 +8,7 @@ use Rattle.facts.specs.Lists.{total, below, every}
 use Rattle.classes.specs.declared.Sized.{Sized}
 use Rattle.classes.specs.declared.Sized.the-variants.{Small, Medium, TooLarge}
 use Rattle.classes.specs.Sizes.{maxMediumSize}
-use Rattle.classes.specs.Shape.{shapeOf}
+use Rattle.classes.specs.Shape.{numberOf, shapeOf}
 pub use Rattle.classes.specs.Shape.{classCount}
 use Rattle.classes.specs.Lookup.{sizeClass}
 
@@ -27,7 +27,7 @@ ceil n d = (n + (d - 1)) / d
 
 -- "A page of capacity c serves c / 64 takes, rounded up; a medium take needs its span."
 unfoldable pub pagesFor : ℕ → ℕ → ℕ
-pagesFor c t = cond (ltb c 64) (ceil t (ceil (shapeOf c .capacity) 64)) (t * shapeOf c .pages)
+pagesFor c t = cond (ltb (numberOf c) 64) (ceil t (ceil (shapeOf c .capacity) 64)) (t * shapeOf c .pages)
 
 -- the pages for so many takes of each class
 unfoldable pub pagesOf : (ℕ → ℕ) → ℕ

@@ -1,13 +1,14 @@
 // The pages for so many takes, of one class and of all.
 use classes::CLASS_COUNT;
 ghost use mathlib.Core.Path.{_≡_};
-ghost use Prim.Native.Nat.{_≤_, _*_};
+ghost use Prim.Native.Nat.{_<_, _≤_, _*_};
 ghost use lib.ListN.{getD};
-ghost use Rattle.plan.specs.Plan.{pagesFor, pagesOf};
+ghost use Rattle.plan.specs.Plan.{classCount, pagesFor, pagesOf};
 ghost use Rattle.plan.specs.Code.{sumMax, Low};
 
 // A run has at most 8 pages, so no sum over the classes wraps.
 fn pages_for(class: u32, takes: u64) -> u64
+    requires { ⌜ class < classCount ⌝ }
     requires { ⌜ takes ≤ sumMax ⌝ }
     ensures { λ r. ⌜ (r ≡ pagesFor class takes) × (r ≤ takes * 8) ⌝ }
 {

@@ -6,15 +6,15 @@ use Rattle.words.specs.Word.{kindOf}
 use Rattle.words.specs.Host.{badHost}
 use Rattle.classes.specs.declared.Shape.{Shape}
 use Rattle.classes.specs.way.Sound.{Sound}
-use Rattle.classes.specs.Shape.{shapeOf, classCount}
+use Rattle.classes.specs.Shape.{shapeOf, classCount, poolId}
 use Rattle.classes.proofs.Shapes.{shape-sound}
 use Rattle.rules.specs.declared.Limits.{Limits}
 use Rattle.rules.specs.Rules.{Rules}
-use Rattle.model.specs.Calls.{take, giveBack, blocksOf, isRefused}
+use Rattle.model.specs.Calls.{pooledTake, pooledRelease, blocksOf, isRefused}
 use Rattle.model.specs.Arena as Arenas
 use Rattle.model.specs.Arena.{Arena}
 use Rattle.model.specs.Page.{Page, hasMore, reused}
-use Rattle.model.specs.Class.{Cold, serve, takeFrom, onRun, thawed}
+use Rattle.model.specs.Class.{Class, Cold, serve, takeFrom, onRun, thawed}
 use Rattle.model.specs.Chunks.{answer}
 use Rattle.model.specs.Release.{ofKind, outHere}
 use Rattle.model.specs.Heap.{Outcome, offer, step, classCall, interact, finish}
@@ -29,7 +29,7 @@ use Rattle.model.proofs.Sites.{out-here}
 use Rattle.model.proofs.Apart.{entry-kind}
 use Rattle.model.proofs.Yields.{served-yields, thawed-more, new-more}
 use Rattle.pool.specs.Stock.{stockMost, blank}
-use Rattle.pool.specs.Pool.{Pool, PoolCall, Plan, PoolRequest, to, alloc, free, turn, hostIn, poolStep, carry, plan, planFree, planAlloc, isGranted, bring, ends, callFor, refused, noBlock, freed, trimmed}
+use Rattle.pool.specs.Pool.{Pool, PoolCall, Plan, PoolRequest, to, alloc, free, turn, hostIn, poolStep, carry, plan, planFree, planAlloc, isGranted, bring, ends, refused, noBlock, freed, trimmed}
 use Rattle.pool.specs.Observed.{observedOf, poolEvents, poolAfter}
 use Rattle.pool.specs.way.Claims.{Frees, Unchanged}
 use Rattle.pool.proofs.Kept.{PoolInv, pool-kept, at-most, grant-one}
@@ -49,41 +49,45 @@ module _ (size : ℕ) (small : size ≤ maxPages) (n k : ℕ) (P : Pool) (es gs 
   pub out-there : 1 ≤ total (is c w) es → outHere (shapeOf c) (P .heap .classes c) w ≡ true
   out-there h = out-here (shapeOf c) (shape-sound c) (P .heap .classes c) (K .inv .good c) w (omega (arith, K .inv .outs c w))
 
+module _ (size : ℕ) (small : size ≤ maxPages) (n k : ℕ) (P : Pool) (es gs : List Entry) (f : ℕ → Bool) (l : ℕ → ℕ) (K : PoolInv size n k P es gs f l) (c w : ℕ) where
+  abbrev kind-out : 1 ≤ total (is (poolId c) w) es → ofKind (shapeOf (poolId c) .kind) w ≡ true
+  kind-out = out-kind size small n k P es gs f l K (poolId c) w
+
   -- a block in stock is out
-  pub stock-out : (ws : List ℕ) → P .stock c ≡ w ∷ ws → 1 ≤ total (is c w) es
+  pub stock-out : (ws : List ℕ) → P .stock c ≡ w ∷ ws → 1 ≤ total (is (poolId c) w) es
   stock-out ws e = let z : count w (P .stock c) ≡ 1 + count w ws = ap (count w) e ∙ rw (eq-eqb w w refl) in omega (arith, K .split c w)
 
-  grant-tested : 1 ≤ total (is c w) gs → isGranted (shapeOf c) (P .heap .classes c) (P .stock c) w ≡ true
+  grant-tested : 1 ≤ total (is (poolId c) w) gs → isGranted (shapeOf (poolId c)) (P .heap .classes (poolId c)) (P .stock c) w ≡ true
   unfolding isGranted
   grant-tested h =
       let s = K .split c w in
-      rw (out-there (omega arith), count-not w (P .stock c) (omega (arith, at-most (K .inv) c w)))
+      rw (out-there size small n k P es gs f l K (poolId c) w (omega arith), count-not w (P .stock c) (omega (arith, at-most (K .inv) (poolId c) w)))
 
   -- a release of one block that is out is not refused
-  pub gives : (h : ℕ) → badHost h ≡ false → ltb c classCount ≡ true → 1 ≤ total (is c w) es → isRefused (step size (P .heap) (callFor c (giveBack h (w ∷ []))) .answer) ≡ false
-  gives h ok low o = rw (step-give size (P .heap) c h (w ∷ []) ok low) (give-done size (P .heap) c h w (out-kind o) (out-there o))
+  pub gives : (h : ℕ) → badHost h ≡ false → ltb c classCount ≡ true → 1 ≤ total (is (poolId c) w) es → isRefused (step size (P .heap) (pooledRelease c h (w ∷ [])) .answer) ≡ false
+  gives h ok low o = rw (step-give size (P .heap) c h (w ∷ []) ok low) (give-done size (P .heap) (poolId c) h w (kind-out o) (out-there size small n k P es gs f l K (poolId c) w o))
 
-  free-done : (h : ℕ) → badHost h ≡ false → ltb c classCount ≡ true → 1 ≤ total (is c w) gs → poolStep size P (to c (free h w)) .answer ≡ freed
+  free-done : (h : ℕ) → badHost h ≡ false → ltb c classCount ≡ true → 1 ≤ total (is (poolId c) w) gs → poolStep size P (to c (free h w)) .answer ≡ freed
   unfolding poolStep plan planFree carry ends
   free-done h ok low o =
-      let out : 1 ≤ total (is c w) es = omega (arith, K .split c w) in
-      rw (ok, low, out-kind out, grant-tested o)
+      let out : 1 ≤ total (is (poolId c) w) es = omega (arith, K .split c w) in
+      rw (ok, low, kind-out out, grant-tested o)
       (by-cases (ltb (length (P .stock c)) (stockMost c)) (λ e. rw e) (λ e. rw (e, gives h ok low out)))
 
   -- where the block is then
-  module _ (h : ℕ) (ok : badHost h ≡ false) (low : ltb c classCount ≡ true) (o : 1 ≤ total (is c w) gs) where
+  module _ (h : ℕ) (ok : badHost h ≡ false) (low : ltb c classCount ≡ true) (o : 1 ≤ total (is (poolId c) w) gs) where
     free-stocks : ltb (length (P .stock c)) (stockMost c) ≡ true → (poolStep size P (to c (free h w)) .pool .heap ≡ P .heap) × (poolStep size P (to c (free h w)) .pool .stock c ≡ w ∷ P .stock c)
     unfolding poolStep plan planFree carry
-    free-stocks e = let k = out-kind (omega (arith, K .split c w)) in (rw (ok, low, k, grant-tested o, e), rw (ok, low, k, grant-tested o, e, eq-eqb c c refl))
+    free-stocks e = let k = kind-out (omega (arith, K .split c w)) in (rw (ok, low, k, grant-tested o, e), rw (ok, low, k, grant-tested o, e, eq-eqb c c refl))
 
     free-returns : ltb (length (P .stock c)) (stockMost c) ≡ false
-        → (poolStep size P (to c (free h w)) .pool .heap ≡ step size (P .heap) (callFor c (giveBack h (w ∷ []))) .heap) × (poolStep size P (to c (free h w)) .pool .stock c ≡ P .stock c)
+        → (poolStep size P (to c (free h w)) .pool .heap ≡ step size (P .heap) (pooledRelease c h (w ∷ [])) .heap) × (poolStep size P (to c (free h w)) .pool .stock c ≡ P .stock c)
     unfolding poolStep plan planFree carry ends
     free-returns e =
-        let out : 1 ≤ total (is c w) es = omega (arith, K .split c w) in
-        (rw (ok, low, out-kind out, grant-tested o, e), rw (ok, low, out-kind out, grant-tested o, e, gives h ok low out, eq-eqb c c refl))
+        let out : 1 ≤ total (is (poolId c) w) es = omega (arith, K .split c w) in
+        (rw (ok, low, kind-out out, grant-tested o, e), rw (ok, low, kind-out out, grant-tested o, e, gives h ok low out, eq-eqb c c refl))
 
-  free-only : (h : ℕ) {p : Plan} → Planned c (P .heap .classes c) (P .stock c) (free h w) p → carry size P c (free h w) p .answer ≡ freed → total (is c w) gs ≡ 1
+  free-only : (h : ℕ) {p : Plan} → Planned c (P .heap .classes (poolId c)) (P .stock c) (free h w) p → carry size P c (free h w) p .answer ≡ freed → total (is (poolId c) w) gs ≡ 1
   unfolding carry
   free-only h (is-turned m) e = let z : _≡_ {A = ℕ} 0 1 = cc in absurd (omega arith)
   free-only h (is-put low g) e = grant-one size n k P es gs f l K c low w g .1
@@ -91,11 +95,11 @@ module _ (size : ℕ) (small : size ≤ maxPages) (n k : ℕ) (P : Pool) (es gs 
 
 -- ---- a free that is refused
 module _ (size : ℕ) (P : Pool) (c h w : ℕ) where
-  free-kind : badHost h ≡ false → ltb c classCount ≡ true → ofKind (shapeOf c .kind) w ≡ false → poolStep size P (to c (free h w)) .answer ≡ refused 9
+  free-kind : badHost h ≡ false → ltb c classCount ≡ true → ofKind (shapeOf (poolId c) .kind) w ≡ false → poolStep size P (to c (free h w)) .answer ≡ refused 9
   unfolding poolStep plan planFree carry
   free-kind e u k = rw (e, u, k)
 
-  free-stale : badHost h ≡ false → ltb c classCount ≡ true → ofKind (shapeOf c .kind) w ≡ true → isGranted (shapeOf c) (P .heap .classes c) (P .stock c) w ≡ false
+  free-stale : badHost h ≡ false → ltb c classCount ≡ true → ofKind (shapeOf (poolId c) .kind) w ≡ true → isGranted (shapeOf (poolId c)) (P .heap .classes (poolId c)) (P .stock c) w ≡ false
       → poolStep size P (to c (free h w)) .answer ≡ refused 10
   unfolding poolStep plan planFree carry
   free-stale e u k g = rw (e, u, k, g)
@@ -121,16 +125,16 @@ frees size small rules xs c h w =
     let K = pool-kept size rules xs .kept in
     record {
       done = λ ok low. (
-        (λ e. observed-out vs c w (omega (arith, free-only size small _ _ P _ _ _ _ (K .holds) c w h (planned c (P .heap .classes c) (P .stock c) (free h w)) e))),
-        (λ o. free-done size small _ _ P _ _ _ _ (K .holds) c w h ok low (out-observed vs c w o)),
+        (λ e. observed-out vs (poolId c) w (omega (arith, free-only size small _ _ P _ _ _ _ (K .holds) c w h (planned c (P .heap .classes (poolId c)) (P .stock c) (free h w)) e))),
+        (λ o. free-done size small _ _ P _ _ _ _ (K .holds) c w h ok low (out-observed vs (poolId c) w o)),
       );
       kind = free-kind size P c h w;
       stale = λ ok low kd no.
-          by-cases (isGranted (shapeOf c) (P .heap .classes c) (P .stock c) w)
-          (λ g. absurd (no (observed-out vs c w (omega (arith, grant-one size _ _ P _ _ _ _ (K .holds) c low w g .1)))))
+          by-cases (isGranted (shapeOf (poolId c)) (P .heap .classes (poolId c)) (P .stock c) w)
+          (λ g. absurd (no (observed-out vs (poolId c) w (omega (arith, grant-one size _ _ P _ _ _ _ (K .holds) c low w g .1)))))
           (free-stale size P c h w ok low kd);
-      stocks = λ ok low o e. let r = free-stocks size small _ _ P _ _ _ _ (K .holds) c w h ok low (out-observed vs c w o) e in record { heap = r .0; stock = r .1 };
-      returns = λ ok low o e. let r = free-returns size small _ _ P _ _ _ _ (K .holds) c w h ok low (out-observed vs c w o) e in record { heap = r .0; stock = r .1 };
+      stocks = λ ok low o e. let r = free-stocks size small _ _ P _ _ _ _ (K .holds) c w h ok low (out-observed vs (poolId c) w o) e in record { heap = r .0; stock = r .1 };
+      returns = λ ok low o e. let r = free-returns size small _ _ P _ _ _ _ (K .holds) c w h ok low (out-observed vs (poolId c) w o) e in record { heap = r .0; stock = r .1 };
     }
 
 -- ---- none
@@ -144,19 +148,19 @@ not-brought (w ∷ ws) n e = let z : _≡_ {A = ℕ} 0 1 = cc in omega arith
 
 module _ (size : ℕ) (P : Pool) (c h : ℕ) where
   abbrev pub took : Outcome
-  took = step size (P .heap) (callFor c (take h blank))
+  took = step size (P .heap) (pooledTake c h blank)
 
   pub took-done : badHost h ≡ false → ltb c classCount ≡ true → isRefused (took .answer) ≡ false
   unfolding classCall interact finish
-  took-done ok low = rw (step-take size (P .heap) c h blank ok low) (take-done (shapeOf c) (shape-sound c) (P .heap .rules c) _ (P .heap .classes c) h)
+  took-done ok low = rw (step-take size (P .heap) c h blank ok low) (take-done (shapeOf (poolId c)) (shape-sound (poolId c)) (P .heap .rules (poolId c)) _ (P .heap .classes (poolId c)) h)
 
   pub took-few : badHost h ≡ false → ltb c classCount ≡ true → length (blocksOf (took .answer)) ≤ 64
   unfolding classCall interact finish
-  took-few ok low = rw (step-take size (P .heap) c h blank ok low) (take-few (shapeOf c) (shape-sound c) (P .heap .rules c) _ (P .heap .classes c) h)
+  took-few ok low = rw (step-take size (P .heap) c h blank ok low) (take-few (shapeOf (poolId c)) (shape-sound (poolId c)) (P .heap .rules (poolId c)) _ (P .heap .classes (poolId c)) h)
 
   pub took-within : badHost h ≡ false → ltb c classCount ≡ true → Within (took .answer)
   unfolding classCall interact finish
-  took-within ok low = rw (step-take size (P .heap) c h blank ok low) (take-within (shapeOf c) (shape-sound c) (P .heap .rules c) _ (P .heap .classes c) h)
+  took-within ok low = rw (step-take size (P .heap) c h blank ok low) (take-within (shapeOf (poolId c)) (shape-sound (poolId c)) (P .heap .rules (poolId c)) _ (P .heap .classes (poolId c)) h)
 
 -- a class's take answers no block exactly if it has no page and the arena no run
 module _ (size h : ℕ) (a : Arena) (lim : Limits) (sh : Shape) (ok : Sound sh) where
@@ -182,29 +186,41 @@ module _ (size h : ℕ) (a : Arena) (lim : Limits) (sh : Shape) (ok : Sound sh) 
   unfolding takeFrom offer onRun
   from-none fs e = rw e
 
-module _ (size : ℕ) (P : Pool) (c h : ℕ) (ok : badHost h ≡ false) (low : ltb c classCount ≡ true) (listed : Listed (shapeOf c) (P .heap .classes c)) where
+module _ (size : ℕ) (P : Pool) (c h : ℕ) (ok : badHost h ≡ false) (low : ltb c classCount ≡ true) (listed : Listed (shapeOf (poolId c)) (P .heap .classes (poolId c))) where
+  abbrev sh : Shape
+  sh = shapeOf (poolId c)
+
+  abbrev sound : Sound sh
+  sound = shape-sound (poolId c)
+
+  abbrev lim : Limits
+  lim = P .heap .rules (poolId c)
+
+  abbrev s : Class
+  s = P .heap .classes (poolId c)
+
   abbrev Nothing : Type 0
-  Nothing = (P .stock c ≡ []) × NoneListed (P .heap .classes c) × (Arenas.commit size h (shapeOf c .pages) (P .heap .arena) .run ≡ none)
+  Nothing = (P .stock c ≡ []) × NoneListed s × (Arenas.commit size h (sh .pages) (P .heap .arena) .run ≡ none)
 
   blocks-are : blocksOf (took size P c h .answer)
-      ≡ blocksFrom size h (P .heap .arena) (P .heap .rules c) (shapeOf c) (shape-sound c) (P .heap .classes c .partial) (P .heap .classes c .empty) (P .heap .classes c .cold) (P .heap .classes c .full)
+      ≡ blocksFrom size h (P .heap .arena) lim sh sound (s .partial) (s .empty) (s .cold) (s .full)
   unfolding classCall interact finish answer
-  blocks-are = rw (step-take size (P .heap) c h blank ok low, le-ltb 64 (shapeOf c .batch) (shape-sound c .limited))
+  blocks-are = rw (step-take size (P .heap) c h blank ok low, le-ltb 64 (sh .batch) (sound .limited))
 
-  none-only : {p : Plan} → Planned c (P .heap .classes c) (P .stock c) (alloc h) p → carry size P c (alloc h) p .answer ≡ noBlock → Nothing
+  none-only : {p : Plan} → Planned c s (P .stock c) (alloc h) p → carry size P c (alloc h) p .answer ≡ noBlock → Nothing
   unfolding carry ends
   none-only (is-turned m) e = let z : _≡_ {A = ℕ} 0 1 = cc in absurd (omega arith)
   none-only (is-popped low y) e = let z : _≡_ {A = ℕ} 0 1 = cc in absurd (omega arith)
   none-only (is-taken ok low y) e =
       let b : bring (reverse (blocksOf (took size P c h .answer))) .answer ≡ noBlock = rw (took-done size P c h ok low) at e in
       let n : blocksOf (took size P c h .answer) ≡ [] = sym (reverse-reverse _) ∙ ap reverse (none-brought (reverse (blocksOf (took size P c h .answer))) b) in
-      let t = none-from size h (P .heap .arena) (P .heap .rules c) (shapeOf c) (shape-sound c) (P .heap .classes c .partial) (P .heap .classes c .empty) (P .heap .classes c .cold) (P .heap .classes c .full) (listed .partial) (listed .empty) (sym blocks-are ∙ n) in
+      let t = none-from size h (P .heap .arena) lim sh sound (s .partial) (s .empty) (s .cold) (s .full) (listed .partial) (listed .empty) (sym blocks-are ∙ n) in
       (y, record { partial = t .0; empty = t .1; cold = t .2 }, t .3)
 
   only-none : Nothing → poolStep size P (to c (alloc h)) .answer ≡ noBlock
   unfolding poolStep plan planAlloc carry ends
   only-none t =
-      let b : blocksOf (took size P c h .answer) ≡ [] = blocks-are ∙ rw (t .1 .partial, t .1 .empty, t .1 .cold) (from-none size h (P .heap .arena) (P .heap .rules c) (shapeOf c) (shape-sound c) (P .heap .classes c .full) (t .2)) in
+      let b : blocksOf (took size P c h .answer) ≡ [] = blocks-are ∙ rw (t .1 .partial, t .1 .empty, t .1 .cold) (from-none size h (P .heap .arena) lim sh sound (s .full) (t .2)) in
       rw (ok, low, t .0, took-done size P c h ok low, b)
 
   pub none-when : (poolStep size P (to c (alloc h)) .answer ≡ noBlock) ↔ Nothing
@@ -214,7 +230,7 @@ module _ (size : ℕ) (P : Pool) (c h : ℕ) (ok : badHost h ≡ false) (low : l
 -- ---- a refusal
 module _ (size : ℕ) (small : size ≤ maxPages) (n k : ℕ) (P : Pool) (es gs : List Entry) (f : ℕ → Bool) (l : ℕ → ℕ) (K : PoolInv size n k P es gs f l) (c m : ℕ) where
   -- none comes of the heap
-  refused-turn : {x : PoolRequest} {p : Plan} → Planned c (P .heap .classes c) (P .stock c) x p → carry size P c x p .answer ≡ refused m → p ≡ turn m
+  refused-turn : {x : PoolRequest} {p : Plan} → Planned c (P .heap .classes (poolId c)) (P .stock c) x p → carry size P c x p .answer ≡ refused m → p ≡ turn m
   unfolding carry ends
   refused-turn (is-turned j) e = let z : j ≡ m = cc in ap turn z
   refused-turn (is-popped low y) e = let z : _≡_ {A = ℕ} 0 1 = cc in absurd (omega arith)

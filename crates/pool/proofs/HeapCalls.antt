@@ -1,12 +1,12 @@
 -- What the heap answers to the calls that the pool makes: none is refused, a take brings at most 64 blocks, a release none.
-use Rattle.facts.proofs.Prelude.{ℕ, _-_, _≤_, arith, Bool, true, false, cond, false≢true, List, [], _∷_, Option, none, some}
-use Rattle.facts.proofs.Prelude.{_≡_, refl, ltb, length, drop, length-append, take-append-seam, le-ltb, every, isSome, by-cases}
+use Rattle.facts.proofs.Prelude.{ℕ, _≤_, arith, Bool, true, false, cond, false≢true, List, [], _∷_, Option, none, some}
+use Rattle.facts.proofs.Prelude.{_≡_, refl, ltb, length, drop, length-append, take-append-seam, le-ltb, every, isSome}
 use Rattle.words.specs.Host.{badHost}
 use Rattle.classes.specs.declared.Shape.{Shape}
-use Rattle.classes.specs.Shape.{shapeOf, classCount}
+use Rattle.classes.specs.Shape.{shapeOf, classCount, poolId}
 use Rattle.rules.specs.declared.Limits.{Limits}
 use Rattle.model.specs.Calls as Calls
-use Rattle.model.specs.Calls.{Answer, hostIn, wayOf, blocksOf, isRefused, take, giveBack}
+use Rattle.model.specs.Calls.{Answer, wayOf, blocksOf, isRefused, take, giveBack, pooledTake, pooledRelease}
 use Rattle.classes.specs.way.Sound.{Sound}
 use Rattle.model.specs.Page.{Page, isOut, carve, reused}
 use Rattle.model.specs.Class.{Class, Cold, Ask, Filled, fillFromList, thawed, serve, refuse, takeFrom, served, onRun}
@@ -16,23 +16,16 @@ use Rattle.model.specs.Release.{Site, ofKind, outHere, repeats, onPage, release
 use Rattle.model.specs.Chunks.{answer}
 use Rattle.model.specs.Heap.{Heap, step, classCall, interact, finish}
 use Rattle.pool.specs.Stock.{blank}
-use Rattle.pool.specs.Pool.{callFor, numberOf}
-use Rattle.pool.proofs.Lives.{names-take, names-give}
+use Rattle.pool.specs.Pool.{numberOf}
 
 module _ (size : ℕ) (H : Heap) (c h : ℕ) (l : List ℕ) (ok : badHost h ≡ false) (low : ltb c classCount ≡ true) where
-  host-take : hostIn (callFor c (take h l)) ≡ h
-  host-take = by-cases (ltb c 64) (λ e. rw e) (λ e. rw e)
-
-  host-give : hostIn (callFor c (giveBack h l)) ≡ h
-  host-give = by-cases (ltb c 64) (λ e. rw e) (λ e. rw e)
-
-  pub step-take : step size H (callFor c (take h l)) ≡ classCall size H c (take h l)
+  pub step-take : step size H (pooledTake c h l) ≡ classCall size H (poolId c) (take h l)
   unfolding step wayOf
-  step-take = rw (host-take, ok, names-take c h l low)
+  step-take = rw (ok, low)
 
-  pub step-give : step size H (callFor c (giveBack h l)) ≡ classCall size H c (giveBack h l)
+  pub step-give : step size H (pooledRelease c h l) ≡ classCall size H (poolId c) (giveBack h l)
   unfolding step wayOf
-  step-give = rw (host-give, ok, names-give c h l low)
+  step-give = rw (ok, low)
 
 -- a release answers no block
 record Quiet (g : Option ℕ) (q : Ask) : Type 0 where

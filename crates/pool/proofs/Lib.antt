@@ -7,5 +7,6 @@ pub mod Frees
 pub mod OnHeap
 pub mod Apart
 pub mod Conserved
+pub mod HeapAlone
 pub mod Alone
 pub mod Examples

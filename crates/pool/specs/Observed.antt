@@ -1,18 +1,20 @@
--- Histories of the pool from an opening, and what a caller is told, in the words of document 01's histories: an alloc is a take that
--- answers one block, a free the release of one, a trim tells of no block.
+-- Histories of all calls, of heap and pool, from an opening, and what a caller is told, in the words of document 01's histories: an alloc is a take in the
+-- pool's class that answers one block, a free the release of one, a trim tells of no block.
 use Prim.Native.Nat.{ℕ}
 use mathlib.Core.List.{List, [], _∷_, _++_, map}
 use mathlib.Core.Option.{Option}
 use mathlib.Core.Bool.{Bool, false}
 use lib.Dec.{eqb}
 use Rattle.facts.specs.Lists.{filter}
+use Rattle.classes.specs.Shape.{poolId}
 use Rattle.rules.specs.Rules.{Rules}
 use Rattle.model.specs.declared.Hole.{Hole}
 use Rattle.model.specs.Calls as Calls
-use Rattle.model.specs.Calls.{Call, Answer}
+use Rattle.model.specs.Calls.{Call, Answer, names}
+use Rattle.model.specs.History as History
 use Rattle.model.specs.History.{Event}
 use Rattle.pool.specs.Stock.{blank}
-use Rattle.pool.specs.Pool.{Pool, newPool, PoolCall, PoolRequest, PoolAnswer, Done, poolStep, callFor, callBy, to, direct, alloc, free, trim, refused, granted, noBlock, freed, trimmed, answered}
+use Rattle.pool.specs.Pool.{Pool, newPool, PoolCall, PoolRequest, PoolAnswer, Done, poolStep, to, heap, alloc, free, trim, refused, granted, noBlock, freed, trimmed, answered}
 
 -- a call as it went: its answer, and what the arena gave at it
 pub record PoolEvent : Type 0 where
@@ -48,13 +50,13 @@ heapCalls size rules xs = heapCallsFrom size (newPool rules) xs
 
 -- ---- what a caller is told
 abbrev pub requestCall : ℕ → PoolRequest → Call
-requestCall c (alloc h) = callFor c (Calls.take h blank)
-requestCall c (free h w) = callFor c (Calls.giveBack h (w ∷ []))
+requestCall c (alloc h) = Calls.pooledTake c h blank
+requestCall c (free h w) = Calls.pooledRelease c h (w ∷ [])
 requestCall c (trim h) = Calls.report
 
 abbrev pub asCall : PoolCall → Call
 asCall (to c x) = requestCall c x
-asCall (direct d) = callBy d
+asCall (heap x) = x
 
 abbrev pub asAnswer : PoolAnswer → Answer
 asAnswer (refused n) = Calls.refused n
@@ -70,10 +72,11 @@ observed v = record { call = asCall (v .call); answer = asAnswer (v .answer); ru
 abbrev pub observedOf : List PoolEvent → List Event
 observedOf vs = map observed vs
 
--- ---- a class's calls are the allocs, frees and trims that name it; their answers, and what the arena gave at each
+-- ---- the calls of the class with an id: takes and releases, groups too, that name it; for the pool's, the allocs, frees and trims. Their answers, and what the
+-- arena gave at each
 abbrev pub isOf : ℕ → PoolCall → Bool
-isOf c (to d x) = eqb d c
-isOf c (direct d) = false
+isOf c (to d x) = eqb (poolId d) c
+isOf c (heap x) = History.isOf c (names x)
 
 abbrev pub poolCallsOf : ℕ → List PoolCall → List PoolCall
 poolCallsOf c xs = filter (isOf c) xs

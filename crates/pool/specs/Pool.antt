@@ -1,5 +1,6 @@
--- The pool on values: one block out, one block back, over the heap's calls. Each of its calls makes at most one call of the heap.
-use Prim.Native.Nat.{ℕ, _-_}
+-- The pool on values: one block out, one block back, over the heap's calls. Each of its calls makes at most one call of the heap, on a class of the pool's own.
+-- A program calls the heap and the pool on one book, in any order: both are in one history.
+use Prim.Native.Nat.{ℕ}
 use mathlib.Core.List.{List, [], _∷_, reverse}
 use mathlib.Core.Option.{Option, none}
 use mathlib.Core.Bool.{Bool, cond, not, _&&_}
@@ -8,17 +9,17 @@ use lib.ListN.{length}
 use Rattle.facts.specs.Lists.{elem, update}
 use Rattle.words.specs.Host.{badHost}
 use Rattle.classes.specs.declared.Shape.{Shape}
-use Rattle.classes.specs.Shape.{shapeOf, classCount}
+use Rattle.classes.specs.Shape.{shapeOf, classCount, poolId}
 use Rattle.rules.specs.Rules.{Rules}
 use Rattle.model.specs.declared.Hole.{Hole}
 use Rattle.model.specs.Calls as Calls
-use Rattle.model.specs.Calls.{Call, Answer, Request, take, giveBack, giveChunks, isRefused, blocksOf}
+use Rattle.model.specs.Calls.{Call, Answer, pooledTake, pooledRelease, isPooled, isRefused, blocksOf}
 use Rattle.model.specs.Class.{Class}
 use Rattle.model.specs.Release.{ofKind, outHere}
 use Rattle.model.specs.Heap.{Heap, Outcome, newHeap, step}
 use Rattle.pool.specs.Stock.{stockMost, blank}
 
--- the heap and, by class, the blocks in stock, the next to be granted first
+-- the heap and, by a class's number, the blocks in stock, the next to be granted first
 pub record Pool : Type 0 where
   pub heap : Heap
   pub stock : ℕ → List ℕ
@@ -37,27 +38,12 @@ hostIn (alloc h) = h
 hostIn (free h w) = h
 hostIn (trim h) = h
 
--- the heap's calls that name no class
-pub data Direct : Type 0 where
-  commit : (host pages : ℕ) → Direct
-  growFrontier : (host first old new : ℕ) → Direct
-  release : (host first pages : ℕ) → Direct
-  contains : (offset bytes : ℕ) → Direct
-  report : Direct
-
-abbrev pub callBy : Direct → Call
-callBy (commit h n) = Calls.commit h n
-callBy (growFrontier h q old new) = Calls.growFrontier h q old new
-callBy (release h q n) = Calls.release h q n
-callBy (contains o b) = Calls.contains o b
-callBy report = Calls.report
-
--- a class's id is 0 to 63 for the small ones, 64 to 75 for the medium ones
+-- a request of the class with a number, 0 to 63 small and 64 to 75 medium; or a call of the heap
 pub data PoolCall : Type 0 where
   to : (class : ℕ) → PoolRequest → PoolCall
-  direct : Direct → PoolCall
+  heap : Call → PoolCall
 
--- an alloc is granted a block or has none; a trim has the block that went back, or none; a direct call is answered by the heap
+-- an alloc is granted a block or has none; a trim has the block that went back, or none; the heap answers its own calls
 pub data PoolAnswer : Type 0 where
   refused : (number : ℕ) → PoolAnswer
   granted : (word : ℕ) → PoolAnswer
@@ -70,42 +56,37 @@ pub data PoolAnswer : Type 0 where
 pub data Plan : Type 0 where
   turn : (number : ℕ) → Plan
   stays : PoolAnswer → List ℕ → Plan
-  goes : Request → List ℕ → Plan
+  goes : Call → List ℕ → Plan
 
-unfoldable pub planAlloc : ℕ → List ℕ → Plan
-planAlloc h [] = goes (take h blank) []
-planAlloc h (w ∷ ws) = stays (granted w) ws
+unfoldable pub planAlloc : ℕ → ℕ → List ℕ → Plan
+planAlloc c h [] = goes (pooledTake c h blank) []
+planAlloc c h (w ∷ ws) = stays (granted w) ws
 
-unfoldable pub planTrim : ℕ → List ℕ → Plan
-planTrim h [] = stays noBlock []
-planTrim h (w ∷ ws) = goes (giveBack h (w ∷ [])) ws
+unfoldable pub planTrim : ℕ → ℕ → List ℕ → Plan
+planTrim c h [] = stays noBlock []
+planTrim c h (w ∷ ws) = goes (pooledRelease c h (w ∷ [])) ws
 
 -- a block is granted in a class: out of the heap there, and not in stock
 unfoldable pub isGranted : Shape → Class → List ℕ → ℕ → Bool
 isGranted sh s st w = outHere sh s w && not (elem w st)
 
--- numbers 9 and 10; `most` is how many blocks a free lets the stock hold
-unfoldable pub planFree : Shape → ℕ → Class → List ℕ → ℕ → ℕ → Plan
-planFree sh most s st h w =
-    cond (not (ofKind (sh .kind) w)) (turn 9)
-    (cond (not (isGranted sh s st w)) (turn 10)
-    (cond (ltb (length st) most) (stays freed (w ∷ st)) (goes (giveBack h (w ∷ [])) st)))
+-- numbers 9 and 10
+unfoldable pub planFree : ℕ → Class → List ℕ → ℕ → ℕ → Plan
+planFree c s st h w =
+    cond (not (ofKind (shapeOf (poolId c) .kind) w)) (turn 9)
+    (cond (not (isGranted (shapeOf (poolId c)) s st w)) (turn 10)
+    (cond (ltb (length st) (stockMost c)) (stays freed (w ∷ st)) (goes (pooledRelease c h (w ∷ [])) st)))
 
 abbrev pub planOf : ℕ → Class → List ℕ → PoolRequest → Plan
-planOf c s st (alloc h) = planAlloc h st
-planOf c s st (free h w) = planFree (shapeOf c) (stockMost c) s st h w
-planOf c s st (trim h) = planTrim h st
+planOf c s st (alloc h) = planAlloc c h st
+planOf c s st (free h w) = planFree c s st h w
+planOf c s st (trim h) = planTrim c h st
 
 -- numbers 3 and 4 come first
 unfoldable pub plan : ℕ → Class → List ℕ → PoolRequest → Plan
 plan c s st x = cond (badHost (hostIn x)) (turn 3) (cond (not (ltb c classCount)) (turn 4) (planOf c s st x))
 
 -- ---- a request that goes to the heap
-abbrev pub callFor : ℕ → Request → Call
-callFor c (take h l) = cond (ltb c 64) (Calls.takeBlocks c h l) (Calls.mediumTakeBlocks (c - 64) h l)
-callFor c (giveBack h ws) = cond (ltb c 64) (Calls.releaseBlocks c h ws) (Calls.mediumReleaseBlocks (c - 64) h ws)
-callFor c (giveChunks h ws gs fs) = Calls.releaseBinChunks c h ws gs fs
-
 -- what is answered, and the stock afterwards
 pub record End : Type 0 where
   pub answer : PoolAnswer
@@ -160,14 +141,15 @@ after P c x y new o =
 unfoldable pub carry : ℕ → Pool → ℕ → PoolRequest → Plan → Done
 carry size P c x (turn n) = record { pool = P; answer = refused n; calls = []; run = none }
 carry size P c x (stays a st) = record { pool = withStock P c (P .heap) st; answer = a; calls = []; run = none }
-carry size P c x (goes r st) = after P c x (callFor c r) st (step size (P .heap) (callFor c r))
+carry size P c x (goes y st) = after P c x y st (step size (P .heap) y)
 
--- a direct call goes to the heap as it is
-unfoldable pub pass : ℕ → Pool → Direct → Done
-pass size P d =
-    let o = step size (P .heap) (callBy d) in
-    record { pool = record { heap = o .heap; stock = P .stock }; answer = answered (o .answer); calls = callBy d ∷ []; run = o .run }
+-- a call of the heap goes to it as it is; a pooled one names no class that a caller has
+unfoldable pub pass : ℕ → Pool → Call → Done
+pass size P x =
+    let o = step size (P .heap) x in
+    cond (isPooled x) (record { pool = P; answer = answered (Calls.refused 4); calls = []; run = none })
+    (record { pool = record { heap = o .heap; stock = P .stock }; answer = answered (o .answer); calls = x ∷ []; run = o .run })
 
 unfoldable pub poolStep : ℕ → Pool → PoolCall → Done
-poolStep size P (to c x) = carry size P c x (plan c (P .heap .classes c) (P .stock c) x)
-poolStep size P (direct d) = pass size P d
+poolStep size P (to c x) = carry size P c x (plan c (P .heap .classes (poolId c)) (P .stock c) x)
+poolStep size P (heap x) = pass size P x

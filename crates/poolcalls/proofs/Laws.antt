@@ -2,32 +2,32 @@
 use Rattle.facts.proofs.Prelude.{ℕ, zero, suc, _+_, _*_, _/_, _%_, _≤_, _<_, arith, true, false, false≢true, List, [], _∷_, _≡_, refl, sym, ap, _∙_, subst, eqb, ltb}
 use Rattle.facts.proofs.Prelude.{length, getD, set, getD-set-same, getD-set-other, ltb-true, ltb-false, eq-eqb, eqb-true, eqb-false, elem, by-cases, or-left, or-right}
 use Rattle.words.specs.Word.{blockWord}
-use Rattle.classes.specs.Shape.{shapeOf, classCount}
+use Rattle.classes.specs.Shape.{shapeOf, classCount, poolId}
 use Rattle.fields.specs.Field.{read, place}
 use Rattle.fields.proofs.Parts.{read-place, read-place-other, Split, below, above}
 use Rattle.poolcalls.specs.Stock.{countAt, entryAt, placeAt, placeBits, countIn, entryIn, placeIn, blockIn, stockFrom, putEntry, putPlace, putCount}
 
 -- ---- a block is in the first m places
-pub in-stock : (b : List ℕ) (c g m k : ℕ) → k < m → entryIn b c k ≡ g → elem (blockWord (shapeOf c .kind) g) (stockFrom b c m) ≡ true
+pub in-stock : (b : List ℕ) (c g m k : ℕ) → k < m → entryIn b c k ≡ g → elem (blockWord (shapeOf (poolId c) .kind) g) (stockFrom b c m) ≡ true
 in-stock b c g zero k h e = absurd (omega arith)
 in-stock b c g (suc m) k h e =
     by-cases (eqb k m)
-    (λ t. or-left (eqb (blockWord (shapeOf c .kind) g) (blockIn b c m)) _ (eq-eqb (blockWord (shapeOf c .kind) g) (blockIn b c m) (let s : entryIn b c m ≡ g = subst (λ (j : ℕ). entryIn b c j ≡ g) (eqb-true k m t) e in omega arith)))
-    (λ t. or-right (eqb (blockWord (shapeOf c .kind) g) (blockIn b c m)) _ (in-stock b c g m k (let d = eqb-false k m t in by-cases (ltb k m) (λ u. ltb-true k m u) (λ u. absurd (d (let v = ltb-false k m u in omega arith)))) e))
+    (λ t. or-left (eqb (blockWord (shapeOf (poolId c) .kind) g) (blockIn b c m)) _ (eq-eqb (blockWord (shapeOf (poolId c) .kind) g) (blockIn b c m) (let s : entryIn b c m ≡ g = subst (λ (j : ℕ). entryIn b c j ≡ g) (eqb-true k m t) e in omega arith)))
+    (λ t. or-right (eqb (blockWord (shapeOf (poolId c) .kind) g) (blockIn b c m)) _ (in-stock b c g m k (let d = eqb-false k m t in by-cases (ltb k m) (λ u. ltb-true k m u) (λ u. absurd (d (let v = ltb-false k m u in omega arith)))) e))
 
 pub record At (b : List ℕ) (c g m : ℕ) : Type 0 where
   pub index : ℕ
   pub under : index < m
   pub is : entryIn b c index ≡ g
 
-pub stock-in : (b : List ℕ) (c g m : ℕ) → elem (blockWord (shapeOf c .kind) g) (stockFrom b c m) ≡ true → At b c g m
+pub stock-in : (b : List ℕ) (c g m : ℕ) → elem (blockWord (shapeOf (poolId c) .kind) g) (stockFrom b c m) ≡ true → At b c g m
 stock-in b c g zero e = absurd (false≢true e)
 stock-in b c g (suc m) e =
-    by-cases (eqb (blockWord (shapeOf c .kind) g) (blockIn b c m))
-    (λ t. record { index = m; under = omega arith; is = let d = eqb-true (blockWord (shapeOf c .kind) g) (blockIn b c m) t in omega arith })
+    by-cases (eqb (blockWord (shapeOf (poolId c) .kind) g) (blockIn b c m))
+    (λ t. record { index = m; under = omega arith; is = let d = eqb-true (blockWord (shapeOf (poolId c) .kind) g) (blockIn b c m) t in omega arith })
     (λ t. let r = stock-in b c g m (rw t at e) in record { index = r .index; under = omega (arith, r .under); is = r .is })
 
--- ---- reads after writes. A class's id is below 76, a place below 256, and the book has the words
+-- ---- reads after writes. A class's number is below 76, a place below 256, and the book has the words
 pub place-bound : (n g : ℕ) → g < 4096 * n → placeAt g < 40000 + 4112 * n
 place-bound n g h = omega arith
 

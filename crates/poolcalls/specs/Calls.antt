@@ -1,10 +1,10 @@
 -- An alloc, a free and a trim on the words, from number 9 on: the answer and the book, for any book. n is the arena's length, c the
--- class's id, h the host word, w a block's. A refusal leaves the book.
+-- class's number, h the host word, w a block's. The heap knows the class by its id (`poolId`). A refusal leaves the book.
 --     allocOn    the stock's top, or one take into a list of the pool's own: the last of its blocks is granted, the others are the stock
 --     grantedIn  a word of the class's kind is a block granted there
 --     freeOn     numbers 9, 10 and 13; then into the stock, or back to the heap where that holds enough
 --     trimOn     the stock's top goes back to the heap
-use Prim.Native.Nat.{ℕ, _-_, _*_}
+use Prim.Native.Nat.{ℕ, _+_, _-_, _*_}
 use mathlib.Core.Bool.{Bool, cond, not, _&&_}
 use mathlib.Core.List.{List, [], _∷_}
 use mathlib.Core.Path.{_≡_}
@@ -12,7 +12,8 @@ use lib.Dec.{eqb, ltb, leb}
 use lib.ListN.{getD}
 use lib.ListN as ListN
 use Rattle.words.specs.Word.{noneKind, blockWord, granuleOf}
-use Rattle.classes.specs.Shape.{shapeOf}
+use Rattle.classes.specs.Shape.{shapeOf, poolId}
+use Rattle.fields.specs.Ranges.{formatValid}
 use Rattle.model.specs.Release.{ofKind}
 use Rattle.calls.specs.Out.{outAt}
 use Rattle.calls.specs.Take.{Took, takeCall}
@@ -45,16 +46,16 @@ blockOut noBlock old = blockWord noneKind 0
 blockOut freed old = old
 blockOut (answered a) old = old
 
--- ---- number 13: COUNT, and the ENTRY on top
+-- ---- number 13: FORMAT, COUNT, and the ENTRY on top, whose block lies in the arena whole
 unfoldable pub countValid : List ℕ → ℕ → Bool
 countValid b c = leb (countIn b c) countMax
 
 unfoldable pub topValid : ℕ → List ℕ → ℕ → Bool
-topValid n b c = countValid b c && ltb (entryIn b c (countIn b c - 1)) (4096 * n)
+topValid n b c = formatValid b && (countValid b c && leb (entryIn b c (countIn b c - 1) + shapeOf (poolId c) .block) (4096 * n))
 
--- how many blocks there are; 0 for a COUNT out of its range
+-- how many blocks there are; 0 for a word out of its range
 unfoldable pub stockedIn : List ℕ → ℕ → ℕ
-stockedIn b c = cond (countValid b c) (countIn b c) 0
+stockedIn b c = cond (formatValid b && countValid b c) (countIn b c) 0
 
 -- ---- alloc
 -- m blocks of a list
@@ -66,7 +67,7 @@ tookOn c t = cond (eqb (t .code) 0) (bringOn (t .book) c (t .count) (t .list)) (
 
 unfoldable pub allocOn : ℕ → List ℕ → ℕ → ℕ → PoolReply
 allocOn n b c h =
-    cond (eqb (countIn b c) 0) (tookOn c (takeCall n b c (shapeOf c) h blank))
+    cond (eqb (countIn b c) 0) (tookOn c (takeCall n b (poolId c) (shapeOf (poolId c)) h blank))
     (cond (topValid n b c) (poolReply (granted (blockIn b c (countIn b c - 1))) (putCount b c (countIn b c - 1))) (poolReply (refused 13) b))
 
 -- ---- free
@@ -74,31 +75,31 @@ allocOn n b c h =
 unfoldable pub releasedOn : PoolAnswer → List ℕ → Released → PoolReply
 releasedOn a b z = cond (eqb (z .code) 0) (poolReply a b) (poolReply (refused (z .code)) (z .book))
 
--- a granted block: into the stock, or back to the heap
+-- a granted block: into the stock, or back to the heap, which tests FORMAT itself
 unfoldable pub freedOn : ℕ → List ℕ → ℕ → ℕ → ℕ → PoolReply
 freedOn n b c h w =
-    cond (ltb (countIn b c) (stockMost c)) (poolReply freed (pushed b c (granuleOf w)))
+    cond (ltb (countIn b c) (stockMost c)) (cond (formatValid b) (poolReply freed (pushed b c (granuleOf w))) (poolReply (refused 13) b))
     (cond (countValid b c)
-    (let z = releaseBlocks n b c (shapeOf c) h (w ∷ []) in releasedOn freed (z .book) z)
+    (let z = releaseBlocks n b (poolId c) (shapeOf (poolId c)) h (w ∷ []) in releasedOn freed (z .book) z)
     (poolReply (refused 13) b))
 
 -- the heap has the block out in the class, which therefore lies in the arena; and it is not in stock
 abbrev pub grantedIn : ℕ → List ℕ → ℕ → ℕ → Bool
-grantedIn n b c w = outAt n b c (shapeOf c) w && not (stocked b c (granuleOf w))
+grantedIn n b c w = outAt n b (poolId c) (shapeOf (poolId c)) w && not (stocked b c (granuleOf w))
 
 unfoldable pub freeOn : ℕ → List ℕ → ℕ → ℕ → ℕ → PoolReply
 freeOn n b c h w =
-    cond (not (ofKind (shapeOf c .kind) w)) (poolReply (refused 9) b)
+    cond (not (ofKind (shapeOf (poolId c) .kind) w)) (poolReply (refused 9) b)
     (cond (not (grantedIn n b c w)) (poolReply (refused 10) b)
     (freedOn n b c h w))
 
 -- ---- trim
 unfoldable pub trimOn : ℕ → List ℕ → ℕ → ℕ → PoolReply
 trimOn n b c h =
-    cond (eqb (countIn b c) 0) (poolReply noBlock b)
+    cond (eqb (countIn b c) 0) (cond (formatValid b) (poolReply noBlock b) (poolReply (refused 13) b))
     (cond (topValid n b c)
     (let w = blockIn b c (countIn b c - 1) in
-    let z = releaseBlocks n b c (shapeOf c) h (w ∷ []) in
+    let z = releaseBlocks n b (poolId c) (shapeOf (poolId c)) h (w ∷ []) in
     releasedOn (trimmed w) (putCount (z .book) c (countIn b c - 1)) z)
     (poolReply (refused 13) b))
 

@@ -1,3 +1,3 @@
 pub mod Stock
 pub mod Calls
-pub mod HeapWords
+pub mod way

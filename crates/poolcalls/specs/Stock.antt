@@ -1,6 +1,6 @@
--- The pool's words. b is the book, c a class's id, g a granule (a block is named by its first one), k a place in the stock.
---     COUNT of class c    word 167 + 8c, the last of the class's row, which an opening clears
---     ENTRY k of class c  word 9,216 + 256c + k: the granule of a block in stock
+-- The pool's words. b is the book, c a class's number, g a granule (a block is named by its first one), k a place in the stock.
+--     COUNT of class c    word 775 + 8c, the last of the row of the pool's class, which an opening clears
+--     ENTRY k of class c  word 10,240 + 256c + k: the granule of a block in stock
 --     PLACE of granule g  8 bits in words 2,320 to 3,343 of its page: where it stands in its class's stock if it is there, else anything
 use Prim.Native.Nat.{ℕ, zero, suc, _+_, _*_, _/_, _%_}
 use mathlib.Core.Bool.{Bool, _&&_}
@@ -8,14 +8,14 @@ use mathlib.Core.List.{List, [], _∷_}
 use lib.Dec.{eqb, ltb}
 use lib.ListN.{length, getD, set}
 use Rattle.words.specs.Word.{blockWord, granuleOf}
-use Rattle.classes.specs.Shape.{shapeOf}
+use Rattle.classes.specs.Shape.{shapeOf, poolId}
 use Rattle.fields.specs.Field.{Part, bits, read, place}
 
 abbrev pub countAt : ℕ → ℕ
-countAt c = 167 + 8 * c
+countAt c = 167 + 8 * poolId c
 
 abbrev pub entryAt : ℕ → ℕ → ℕ
-entryAt c k = 9216 + 256 * c + k
+entryAt c k = 10240 + 256 * c + k
 
 abbrev pub placeAt : ℕ → ℕ
 placeAt g = 42320 + 4112 * (g / 4096) + g % 4096 / 4
@@ -35,7 +35,7 @@ placeIn b g = read (placeBits g) (getD b (placeAt g) 0)
 
 -- the block in place k; the stock, the next to be granted first
 abbrev pub blockIn : List ℕ → ℕ → ℕ → ℕ
-blockIn b c k = blockWord (shapeOf c .kind) (entryIn b c k)
+blockIn b c k = blockWord (shapeOf (poolId c) .kind) (entryIn b c k)
 
 abbrev pub stockFrom : List ℕ → ℕ → ℕ → List ℕ
 stockFrom b c zero = []

@@ -38,7 +38,7 @@ use Rattle.refinement.proofs.LocalFill.{Home}
 use Rattle.refinement.proofs.LocalArena.{ArenaIn, in-arena, in-hole, committed-in, grown-in, given-in}
 use Rattle.refinement.proofs.Lengths.{Ours, reply-long}
 use Rattle.refinement.proofs.LocalReply.{Abroad, reply-local, ours-row}
-use Rattle.poolcalls.specs.HeapWords.{heapWord}
+use Rattle.poolcalls.specs.way.HeapWords.{heapWord}
 
 pub not-override : (S : ℕ → Bool) (b d : List ℕ) (i : ℕ) → S i ≡ false → length b ≡ length d → getD (override S b d) i 0 ≡ getD d i 0
 unfolding override
@@ -52,8 +52,8 @@ not-override S (x ∷ xs) (y ∷ ys) (suc i) e l = not-override (λ i. S (suc i)
 pub arena-in : ArenaIn heapWord
 unfolding heapWord
 arena-in = record {
-  low = λ j l. rw (lt-ltb j 40000 (omega arith), lt-ltb j 9216 (omega arith), lt-leb 160 j (omega arith));
-  high = λ j l. rw (lt-ltb (1024 + j) 40000 (omega arith), lt-ltb (1024 + j) 9216 (omega arith), le-ltb (1024 + j) 768 (omega arith), and-no (leb 160 (1024 + j)));
+  low = λ j l. rw (lt-ltb j 40000 (omega arith), lt-ltb j 10240 (omega arith), lt-leb 160 j (omega arith));
+  high = λ j l. rw (lt-ltb (2048 + j) 40000 (omega arith), lt-ltb (2048 + j) 10240 (omega arith), le-ltb (2048 + j) 1376 (omega arith), and-no (leb 160 (2048 + j)));
 }
 
 word-heap : (q j : ℕ) → j < 2320 → heapWord (40000 + 4112 * q + j) ≡ true
@@ -74,9 +74,9 @@ unfolding heapWord
 row-in c h = record {
   words = λ j l. rw (
     lt-ltb (160 + 8 * c + j) 40000 (omega (arith, ltb-true c classRows h)),
-    lt-ltb (160 + 8 * c + j) 9216 (omega (arith, ltb-true c classRows h)),
+    lt-ltb (160 + 8 * c + j) 10240 (omega (arith, ltb-true c classRows h)),
     ne-eqb ((160 + 8 * c + j) % 8) 7 (omega arith),
-    and-no (ltb (160 + 8 * c + j) 768),
+    and-no (ltb (160 + 8 * c + j) 1376),
     and-no (leb 160 (160 + 8 * c + j)),
   );
 }
@@ -179,6 +179,8 @@ module _ (n : ℕ) (b : List ℕ) (H : Heap) (R : Represents n b H) (ok : Reache
   direct-frame (Calls.mediumTakeBlocks c h l) i e = refl
   direct-frame (Calls.releaseBlocks c h ws) i e = refl
   direct-frame (Calls.mediumReleaseBlocks c h ws) i e = refl
+  direct-frame (Calls.pooledTake c h l) i e = refl
+  direct-frame (Calls.pooledRelease c h ws) i e = refl
   direct-frame (Calls.releaseBinChunks c h ws gs fs) i e = refl
   direct-frame (Calls.commit h m) i e = by-cases (badRun m) (λ t. rw t) (λ t. rw t (commit-framed h m (ownerCode direct) .frame i e))
   direct-frame (Calls.growFrontier h q old new) i e = grow-framed h q old new .frame i e

@@ -4,11 +4,11 @@ use Rattle.facts.proofs.Prelude.{ap, _∙_, subst, eqb, ltb, length, getD, leng
 use lib.ListN as ListN
 use Rattle.words.specs.Host.{badHost}
 use Rattle.words.specs.Word.{blockWord, granuleOf}
-use Rattle.classes.specs.Shape.{shapeOf, classCount}
+use Rattle.classes.specs.Shape.{shapeOf, classCount, poolId}
 use Rattle.fields.specs.Ranges.{maxPages}
 use Rattle.fields.specs.Field.{words}
 use Rattle.model.specs.Calls as Calls
-use Rattle.model.specs.Calls.{blocksOf}
+use Rattle.model.specs.Calls.{blocksOf, pooledTake}
 use Rattle.model.specs.Heap.{Heap, Outcome, step}
 use Rattle.model.specs.Entries.{Entry, directNext}
 use Rattle.model.specs.Yields.{Listed}
@@ -16,17 +16,17 @@ use Rattle.model.proofs.EntryCounts.{is}
 use Rattle.model.proofs.Counts.{elem-count, count-not, count-reverse}
 use Rattle.model.proofs.Update.{update-same, update-other, other-way}
 use Rattle.calls.specs.Take.{Took, takeCall}
-use Rattle.refinement.proofs.ArenaHolders.{row-known}
+use Rattle.refinement.proofs.ArenaHolders.{pooled-class}
 use Rattle.refinement.specs.way.Represents.{Represents}
 use Rattle.refinement.specs.Direct.{Agrees}
 use Rattle.refinement.specs.Classes.{takeReply}
 use Rattle.refinement.proofs.ArenaReached.{Reached}
 use Rattle.refinement.proofs.TakeWhole.{take-whole}
 use Rattle.pool.specs.Stock.{countMax, blank}
-use Rattle.pool.specs.Pool.{Pool, alloc, goes, carry, ends, callFor, bring, withStock, granted, noBlock}
+use Rattle.pool.specs.Pool.{Pool, alloc, goes, carry, ends, bring, withStock, granted, noBlock}
 use Rattle.pool.specs.Observed.{requestCall, asAnswer}
 use Rattle.pool.proofs.Lives as Lives
-use Rattle.pool.proofs.Apart.{out-apart, out-low, out-word}
+use Rattle.pool.proofs.Apart.{out-apart, out-inside, out-word}
 use Rattle.pool.proofs.Kept.{PoolInv, PoolKept, at-most, brought}
 use Rattle.pool.proofs.HeapCalls.{step-take, Within}
 use Rattle.pool.proofs.Frees.{took-done, took-few, took-within}
@@ -34,10 +34,10 @@ use Rattle.poolcalls.specs.Stock.{countIn, entryIn, blockIn, filled}
 use Rattle.poolcalls.specs.Calls.{PoolReply, poolReply, bringOn, tookOn, allocOn}
 use Rattle.poolcalls.proofs.Laws.{in-stock}
 use Rattle.poolrefinement.specs.way.Represents.{StockRep, PoolRep, PoolAgrees}
-use Rattle.poolcalls.specs.HeapWords.{heapWord}
+use Rattle.poolcalls.specs.way.HeapWords.{heapWord}
 use Rattle.poolrefinement.proofs.Frame.{class-frame, represents-still}
 use Rattle.poolrefinement.proofs.Stocks.{stock-still, Fresh, Off, filled-own, filled-other, filled-changes}
-use Rattle.poolrefinement.proofs.Requests.{granule-of, stocks-with, code-zero, none-count}
+use Rattle.poolrefinement.proofs.Requests.{granule-of, same-number, stocks-with, code-zero, none-count}
 
 -- ---- the same by the blocks, the first popped first
 abbrev broughtOn : List ℕ → ℕ → List ℕ → PoolReply
@@ -62,7 +62,7 @@ brought-on b c m l h =
     rw t (sym (ap (broughtOn b c) cut ∙ ap (λ x. poolReply (granted w) (filled b c x)) (reverse-reverse (ListN.take (m - 1) l)))))
 
 -- blocks that are the class's, in the arena, and no two alike
-fresh-of : (n c : ℕ) (ws st : List ℕ) → ((v : ℕ) → count v ws + count v st ≤ 1) → ((v : ℕ) → 1 ≤ count v ws → (v ≡ blockWord (shapeOf c .kind) (granuleOf v)) × (granuleOf v < 4096 * n)) → Fresh n c st ws
+fresh-of : (n c : ℕ) (ws st : List ℕ) → ((v : ℕ) → count v ws + count v st ≤ 1) → ((v : ℕ) → 1 ≤ count v ws → (v ≡ blockWord (shapeOf (poolId c) .kind) (granuleOf v)) × (granuleOf v + shapeOf (poolId c) .block ≤ 4096 * n)) → Fresh n c st ws
 fresh-of n c [] st once sound = tt
 fresh-of n c (w ∷ ws) st once sound =
     let here : count w (w ∷ ws) ≡ 1 + count w ws = rw (eq-eqb w w refl) in
@@ -75,13 +75,13 @@ module _ (n : ℕ) (hn : n ≤ maxPages) (P : Pool) (b : List ℕ) (R : PoolRep 
   H = P .heap
 
   abbrev t : Took
-  t = takeCall n b c (shapeOf c) h blank
+  t = takeCall n b (poolId c) (shapeOf (poolId c)) h blank
 
   abbrev o : Outcome
-  o = step n H (callFor c (Calls.take h blank))
+  o = step n H (pooledTake c h blank)
 
   agrees : Agrees (Represents n) (takeReply t) o
-  agrees = rw (step-take n H c h blank fine hc) (take-whole n b H (R .heap) ok c (row-known c hc) (listed c) h blank)
+  agrees = rw (step-take n H c h blank fine hc) (take-whole n b H (R .heap) ok (poolId c) (pooled-class c hc) (listed (poolId c)) h blank)
 
   zero-code : eqb (t .code) 0 ≡ true
   zero-code = code-zero (t .code) _ (o .answer) (agrees .answer) (took-done n P c h fine hc)
@@ -96,7 +96,7 @@ module _ (n : ℕ) (hn : n ≤ maxPages) (P : Pool) (b : List ℕ) (R : PoolRep 
   within = subst Within (sym answered) (took-within n P c h fine hc)
 
   frame : (i : ℕ) → heapWord i ≡ false → getD (t .book) i 0 ≡ getD b i 0
-  frame i e = class-frame n hn b H (R .heap) ok c (listed c) (Calls.take h blank) (row-known c hc) i e
+  frame i e = class-frame n hn b H (R .heap) ok (poolId c) (listed (poolId c)) (Calls.take h blank) (pooled-class c hc) i e
 
   long : words n ≤ length (t .book)
   long = leb-true (words n) (length (t .book)) (agrees .heap .arena .long)
@@ -109,7 +109,7 @@ module _ (n : ℕ) (hn : n ≤ maxPages) (P : Pool) (b : List ℕ) (R : PoolRep 
     P′ = withStock P c (o .heap) ws
 
     abbrev gs′ : List Entry
-    gs′ = Lives.next k c (Calls.take h blank) (asAnswer (granted w)) gs
+    gs′ = Lives.next k (poolId c) (Calls.take h blank) (asAnswer (granted w)) gs
 
     abbrev f′ : ℕ → Bool
     f′ = directNext (requestCall c (alloc h)) (asAnswer (granted w)) f
@@ -123,16 +123,16 @@ module _ (n : ℕ) (hn : n ≤ maxPages) (P : Pool) (b : List ℕ) (R : PoolRep 
     short : length (reverse ws) ≤ countMax
     short = omega (arith, length-reverse ws, took-few n P c h fine hc, length-reverse (blocksOf (o .answer)), ap length e)
 
-    out : (v : ℕ) → 1 ≤ count v (reverse ws) → 1 ≤ total (is c v) (next .entries)
+    out : (v : ℕ) → 1 ≤ count v (reverse ws) → 1 ≤ total (is (poolId c) v) (next .entries)
     out v z = let s : P′ .stock c ≡ ws = update-same (P .stock) c ws in omega (arith, I .split c v, ap (count v) s, count-reverse v ws)
 
     once : (v : ℕ) → count v (reverse ws) + count v [] ≤ 1
-    once v = let s : P′ .stock c ≡ ws = update-same (P .stock) c ws in omega (arith, I .split c v, ap (count v) s, count-reverse v ws, at-most (I .inv) c v)
+    once v = let s : P′ .stock c ≡ ws = update-same (P .stock) c ws in omega (arith, I .split c v, ap (count v) s, count-reverse v ws, at-most (I .inv) (poolId c) v)
 
     fresh : Fresh n c [] (reverse ws)
     fresh =
         fresh-of n c (reverse ws) [] once
-        (λ v z. (out-word n hn (next .number) (suc k) P′ (next .entries) gs′ f′ (next .lost) I c v (out v z), out-low n hn (next .number) (suc k) P′ (next .entries) gs′ f′ (next .lost) I c v (out v z)))
+        (λ v z. (out-word n hn (next .number) (suc k) P′ (next .entries) gs′ f′ (next .lost) I (poolId c) v (out v z), out-inside n hn (next .number) (suc k) P′ (next .entries) gs′ f′ (next .lost) I (poolId c) v (out v z)))
 
     -- another class has none of them
     module _ (d : ℕ) (hd : ltb d classCount ≡ true) (ne : eqb d c ≡ false) where
@@ -142,15 +142,16 @@ module _ (n : ℕ) (hn : n ≤ maxPages) (P : Pool) (b : List ℕ) (R : PoolRep 
           let x = blockIn (t .book) d j in
           let y : elem x (P .stock d) ≡ true = subst (λ s. elem x s ≡ true) (r .same) (in-stock (t .book) d (entryIn (t .book) d j) (countIn (t .book) d) j lt refl) in
           let s : P′ .stock d ≡ P .stock d = update-other (P .stock) c d ws (other-way d c ne) in
-          let there : 1 ≤ total (is d x) (next .entries) = omega (arith, I .split d x, ap (count x) s, elem-count x (P .stock d) y) in
+          let there : 1 ≤ total (is (poolId d) x) (next .entries) = omega (arith, I .split d x, ap (count x) s, elem-count x (P .stock d) y) in
           eqb-false d c ne
-          (sym (out-apart n hn (next .number) (suc k) P′ (next .entries) gs′ f′ (next .lost) I c v d x (out v z) there (sym g ∙ sym (granule-of n (shapeOf d .kind) (entryIn (t .book) d j) hn (r .low j lt))) .0))
+          (same-number d c
+          (sym (out-apart n hn (next .number) (suc k) P′ (next .entries) gs′ f′ (next .lost) I (poolId c) v (poolId d) x (out v z) there (sym g ∙ sym (granule-of n d (entryIn (t .book) d j) hn (r .low j lt))) .0)))
 
       off-of : (xs : List ℕ) → ((v : ℕ) → 1 ≤ count v xs → 1 ≤ count v (reverse ws)) → Off n c hc d hd ne (P .stock d) (t .book) xs
       off-of [] z = tt
       off-of (v ∷ xs) z = (apart v (z v (rw (eq-eqb v v refl) (omega arith))), off-of xs (λ u q. z u (omega arith)))
 
-    filled-agrees : Reached n (o .heap) → PoolAgrees n (poolReply (granted w) (filled (t .book) c (reverse ws))) (record { pool = P′; answer = granted w; calls = callFor c (Calls.take h blank) ∷ []; run = o .run })
+    filled-agrees : Reached n (o .heap) → PoolAgrees n (poolReply (granted w) (filled (t .book) c (reverse ws))) (record { pool = P′; answer = granted w; calls = pooledTake c h blank ∷ []; run = o .run })
     filled-agrees reach = record {
       answer = refl;
       pool = record {
@@ -162,14 +163,14 @@ module _ (n : ℕ) (hn : n ≤ maxPages) (P : Pool) (b : List ℕ) (R : PoolRep 
     }
 
   brought-agrees : Reached n (o .heap) → (bs : List ℕ) → reverse (blocksOf (o .answer)) ≡ bs
-      → PoolAgrees n (broughtOn (t .book) c bs) (record { pool = withStock P c (o .heap) (bring bs .stock); answer = bring bs .answer; calls = callFor c (Calls.take h blank) ∷ []; run = o .run })
+      → PoolAgrees n (broughtOn (t .book) c bs) (record { pool = withStock P c (o .heap) (bring bs .stock); answer = bring bs .answer; calls = pooledTake c h blank ∷ []; run = o .run })
   brought-agrees reach [] e = record {
     answer = refl;
     pool = record { heap = agrees .heap; stocks = stocks-with n (t .book) (P .stock) c [] (subst (StockRep n (t .book) c) bare (beside c hc)) (λ d hd ne. beside d hd) };
   }
   brought-agrees reach (w ∷ ws) e = filled-agrees w ws e reach
 
-  pub taken-agrees : Reached n (o .heap) → PoolAgrees n (allocOn n b c h) (carry n P c (alloc h) (goes (Calls.take h blank) []))
+  pub taken-agrees : Reached n (o .heap) → PoolAgrees n (allocOn n b c h) (carry n P c (alloc h) (goes (pooledTake c h blank) []))
   unfolding allocOn carry tookOn ends
   taken-agrees reach =
       rw (eq-eqb (countIn b c) 0 (none-count n hn P b R ok listed m k es gs f l K c hc bare), zero-code, brought-on (t .book) c (t .count) (t .list) within, blocks, took-done n P c h fine hc)

@@ -1,13 +1,13 @@
--- Whole histories of the pool on an opened book.
+-- Whole histories on an opened book.
 use Rattle.facts.proofs.Prelude.{ℕ, zero, suc, _≤_, arith, true, false, true≢false, List, [], _∷_, _++_, map, _≡_, refl, sym}
-use Rattle.facts.proofs.Prelude.{ap, ap₂, _∙_, subst, ltb, leb, length, getD, getD-set-other, ltb-true, lt-ltb, leb-true}
+use Rattle.facts.proofs.Prelude.{ap, ap₂, _∙_, subst, ltb, leb, length, getD, getD-set-other, ltb-true, lt-ltb, leb-true, by-cases}
 use Rattle.words.specs.Limits.{classRows}
 use Rattle.classes.specs.Shape.{classCount}
 use Rattle.rules.specs.Rules.{Rules, Fit}
 use Rattle.fields.specs.Ranges.{maxPages}
-use Rattle.fields.specs.Field.{Field, arena, class, size, emptyLimit, coldLimit, word, words, ok, put}
+use Rattle.fields.specs.Field.{Field, arena, class, size, format, emptyLimit, coldLimit, word, words, ok, put}
 use Rattle.arena.specs.Open.{opened, ruled, cleared, headWords}
-use Rattle.model.specs.Calls.{Call}
+use Rattle.model.specs.Calls.{Call, isPooled}
 use Rattle.model.specs.Heap.{step}
 use Rattle.model.specs.History.{heapAfter}
 use Rattle.refinement.specs.way.Represents.{Represents}
@@ -15,13 +15,13 @@ use Rattle.refinement.specs.Direct.{Agrees}
 use Rattle.refinement.specs.Run.{callReply}
 use Rattle.refinement.proofs.OpenRep.{opened-represents, cleared-at}
 use Rattle.refinement.proofs.Whole.{call-whole}
-use Rattle.pool.specs.Pool.{Pool, newPool, PoolCall, Direct, to, direct, callBy, pass, poolStep, answered}
+use Rattle.pool.specs.Pool.{Pool, newPool, PoolCall, to, heap, pass, poolStep, answered}
 use Rattle.pool.specs.Observed.{poolFrom, poolAfter, poolEventsFrom, heapCalls}
 use Rattle.pool.proofs.OnHeap.{on-heap}
 use Rattle.pool.proofs.Conserved.{pool-append}
 use Rattle.poolcalls.specs.Stock.{countAt, countIn, stockFrom}
 use Rattle.poolrefinement.specs.way.Represents.{StockRep, PoolRep, PoolAgrees}
-use Rattle.poolcalls.specs.HeapWords.{heapWord}
+use Rattle.poolcalls.specs.way.HeapWords.{heapWord}
 use Rattle.poolrefinement.specs.Run.{onCall, poolAnswersFrom, bookFrom}
 use Rattle.poolrefinement.specs.way.Runs.{PoolRuns}
 use Rattle.poolrefinement.proofs.Frame.{field-in, heap-frame}
@@ -45,7 +45,7 @@ module _ (n : ℕ) (rules : Rules) (b : List ℕ) (long : leb (words n) (length 
   opened-count c hc =
       let e = count-word c hc in
       let lo = ltb-true c classCount hc in
-      ruled-off _ rules classRows (countAt c) (omega arith) e ∙ put-off (cleared b 768) (arena size) n (countAt c) refl e ∙ cleared-at b 768 (countAt c) (omega (arith, leb-true (words n) (length b) long)) (omega arith)
+      ruled-off _ rules classRows (countAt c) (omega arith) e ∙ put-off _ (arena format) _ (countAt c) refl e ∙ put-off (cleared b 1376) (arena size) n (countAt c) refl e ∙ cleared-at b 1376 (countAt c) (omega (arith, leb-true (words n) (length b) long)) (omega arith)
 
   opened-stock : (c : ℕ) → ltb c classCount ≡ true → StockRep n (opened n rules b) c []
   opened-stock c hc =
@@ -61,7 +61,7 @@ module _ (n : ℕ) (rules : Rules) (b : List ℕ) (long : leb (words n) (length 
   unfolding newPool
   opened-pool fit = record { heap = opened-represents n rules b long fit; stocks = opened-stock }
 
--- ---- a direct call
+-- ---- a call of the heap
 module _ (n : ℕ) (hn : n ≤ maxPages) (rules : Rules) (xs : List PoolCall) (b : List ℕ) (R : PoolRep n b (poolAfter n rules xs)) where
   abbrev P : Pool
   P = poolAfter n rules xs
@@ -75,19 +75,22 @@ module _ (n : ℕ) (hn : n ≤ maxPages) (rules : Rules) (xs : List PoolCall) (b
   pub stands : Represents n b (heapAfter n rules made)
   stands = subst (Represents n b) on (R .heap)
 
-  direct-agrees : (d : Direct) → PoolAgrees n (onCall n b (direct d)) (poolStep n P (direct d))
+  heap-agrees : (x : Call) → PoolAgrees n (onCall n b (heap x)) (poolStep n P (heap x))
   unfolding onCall poolStep pass
-  direct-agrees d =
-      let a = subst (λ H. Agrees (Represents n) (callReply n b (callBy d)) (step n H (callBy d))) (sym on) (call-whole n hn rules made b stands (callBy d)) in
-      record {
+  heap-agrees x =
+      let a = subst (λ H. Agrees (Represents n) (callReply n b x) (step n H x)) (sym on) (call-whole n hn rules made b stands x) in
+      by-cases (isPooled x)
+      (λ e. rw e (record { answer = refl; pool = R }))
+      (λ e. rw e
+      (record {
         answer = ap answered (a .answer);
-        pool = record { heap = a .heap; stocks = λ c hc. stock-still n b _ c (P .stock c) hc (heap-frame n hn rules made b stands (callBy d)) (R .stocks c hc) };
-      }
+        pool = record { heap = a .heap; stocks = λ c hc. stock-still n b _ c (P .stock c) hc (heap-frame n hn rules made b stands x) (R .stocks c hc) };
+      }))
 
   pub call-agrees : (x : PoolCall) → PoolAgrees n (onCall n b x) (poolStep n P x)
   unfolding onCall
   call-agrees (to c x) = pool-agrees n hn rules xs b R c x
-  call-agrees (direct d) = direct-agrees d
+  call-agrees (heap x) = heap-agrees x
 
 -- ---- in turn
 record Goes (n : ℕ) (P : Pool) (b : List ℕ) (ys : List PoolCall) : Type 0 where

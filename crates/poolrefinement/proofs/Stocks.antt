@@ -6,17 +6,18 @@ use Rattle.facts.proofs.Prelude.{ℕ, zero, suc, _+_, _-_, _*_, _/_, _%_, _≤_
 use Rattle.facts.proofs.Prelude.{head-eq-of-cons-eq, tail-eq-of-cons-eq, _≡_, refl, sym, ap, ap₂, _∙_, subst, eqb, ltb, length, getD, length-set}
 use Rattle.facts.proofs.Prelude.{lt-ltb, le-ltb, ltb-true, ltb-false, eq-eqb, eqb-true, eqb-false, le-leb, elem, by-cases, bool-eq, and-left, and-right}
 use Rattle.words.specs.Word.{blockWord, granuleOf}
-use Rattle.classes.specs.Shape.{shapeOf, classCount}
+use Rattle.classes.specs.Shape.{shapeOf, classCount, poolId}
+use Rattle.classes.proofs.Shapes.{shape-sound}
 use Rattle.fields.specs.Field.{words, read}
 use Rattle.fields.proofs.Changes.{Changes, changes-none, changes-trans}
 use Rattle.pool.specs.Stock.{countMax}
 use Rattle.poolcalls.specs.Stock.{countAt, entryAt, placeAt, placeBits, countIn, entryIn, placeIn, blockIn, stockFrom, stocked, putEntry, putPlace, putCount, put, pushed, putAll, filled}
 use Rattle.poolcalls.proofs.Laws.{in-stock, stock-in, place-bound, count-count, count-other, entry-count, place-count, count-entry, entry-entry, entry-same, entry-other, place-entry, count-place, entry-place, place-place, place-other}
 use Rattle.poolrefinement.specs.way.Represents.{StockRep}
-use Rattle.poolcalls.specs.HeapWords.{ofPlaces, heapWord}
+use Rattle.poolcalls.specs.way.HeapWords.{ofPlaces, heapWord}
 use Rattle.poolrefinement.proofs.Frame.{set-changes}
 
-pub stocked-is : (n : ℕ) (b : List ℕ) (c g : ℕ) (st : List ℕ) → StockRep n b c st → stocked b c g ≡ elem (blockWord (shapeOf c .kind) g) st
+pub stocked-is : (n : ℕ) (b : List ℕ) (c g : ℕ) (st : List ℕ) → StockRep n b c st → stocked b c g ≡ elem (blockWord (shapeOf (poolId c) .kind) g) st
 unfolding stocked
 stocked-is n b c g st r =
     rw (sym (r .same))
@@ -29,7 +30,7 @@ stocked-is n b c g st r =
 -- ---- left alone
 from-kept : (b b′ : List ℕ) (c m : ℕ) → ((k : ℕ) → k < m → entryIn b′ c k ≡ entryIn b c k) → stockFrom b′ c m ≡ stockFrom b c m
 from-kept b b′ c zero h = refl
-from-kept b b′ c (suc m) h = ap₂ _∷_ (ap (blockWord (shapeOf c .kind)) (h m (omega arith))) (from-kept b b′ c m (λ k l. h k (omega arith)))
+from-kept b b′ c (suc m) h = ap₂ _∷_ (ap (blockWord (shapeOf (poolId c) .kind)) (h m (omega arith))) (from-kept b b′ c m (λ k l. h k (omega arith)))
 
 stock-kept : (n : ℕ) (b b′ : List ℕ) (c : ℕ) (st : List ℕ) → StockRep n b c st → countIn b′ c ≡ countIn b c
     → ((k : ℕ) → k < countIn b c → entryIn b′ c k ≡ entryIn b c k) → ((k : ℕ) → k < countIn b c → placeIn b′ (entryIn b c k) ≡ placeIn b (entryIn b c k)) → StockRep n b′ c st
@@ -45,11 +46,11 @@ pub count-word : (c : ℕ) → ltb c classCount ≡ true → heapWord (countAt c
 unfolding heapWord
 count-word c hc =
     let lo = ltb-true c classCount hc in
-    rw (lt-ltb (countAt c) 40000 (omega arith), lt-ltb (countAt c) 9216 (omega arith), le-leb 160 (countAt c) (omega arith), lt-ltb (countAt c) 768 (omega arith), eq-eqb (countAt c % 8) 7 (omega arith))
+    rw (lt-ltb (countAt c) 40000 (omega arith), lt-ltb (countAt c) 10240 (omega arith), le-leb 160 (countAt c) (omega arith), lt-ltb (countAt c) 1376 (omega arith), eq-eqb (countAt c % 8) 7 (omega arith))
 
 pub entry-word : (c k : ℕ) → ltb c classCount ≡ true → k < 256 → heapWord (entryAt c k) ≡ false
 unfolding heapWord
-entry-word c k hc l = let lo = ltb-true c classCount hc in rw (lt-ltb (entryAt c k) 40000 (omega arith), le-ltb (entryAt c k) 9216 (omega arith))
+entry-word c k hc l = let lo = ltb-true c classCount hc in rw (lt-ltb (entryAt c k) 40000 (omega arith), le-ltb (entryAt c k) 10240 (omega arith))
 
 places-at : (a u : ℕ) → u < 1024 → ofPlaces ((42320 + 4112 * a + u - 40000) % 4112) ≡ true
 places-at a u l =
@@ -80,7 +81,7 @@ stock-still n b b′ c st hc h r =
 -- ---- the first m places
 pub record PartRep (n : ℕ) (b : List ℕ) (c m : ℕ) (st : List ℕ) : Type 0 where
   pub same : stockFrom b c m ≡ st
-  pub low : (k : ℕ) → k < m → entryIn b c k < 4096 * n
+  pub low : (k : ℕ) → k < m → entryIn b c k + shapeOf (poolId c) .block ≤ 4096 * n
   pub placed : (k : ℕ) → k < m → placeIn b (entryIn b c k) ≡ k
 
 whole-part : (n : ℕ) (b : List ℕ) (c : ℕ) (st : List ℕ) → StockRep n b c st → PartRep n b c (countIn b c) st
@@ -106,7 +107,7 @@ below-of : (j m : ℕ) → j < suc m → (j ≡ m → ⊥) → j < m
 below-of j m h ne = by-cases (ltb j m) (λ t. ltb-true j m t) (λ t. absurd (ne (let u = ltb-false j m t in omega arith)))
 
 -- one more block
-module _ (n : ℕ) (b : List ℕ) (long : words n ≤ length b) (c : ℕ) (hc : ltb c classCount ≡ true) (m : ℕ) (hm : m < countMax) (g : ℕ) (lg : g < 4096 * n) where
+module _ (n : ℕ) (b : List ℕ) (long : words n ≤ length b) (c : ℕ) (hc : ltb c classCount ≡ true) (m : ℕ) (hm : m < countMax) (g : ℕ) (lg : g + shapeOf (poolId c) .block ≤ 4096 * n) where
   abbrev b₁ : List ℕ
   b₁ = putEntry b c m g
 
@@ -124,14 +125,14 @@ module _ (n : ℕ) (b : List ℕ) (long : words n ≤ length b) (c : ℕ) (hc : 
   place-far : (x : ℕ) → (x ≡ g → ⊥) → placeIn (put b c m g) x ≡ placeIn b x
   place-far x ne = place-other b₁ g m x ne ∙ place-entry b c hc m hm′ g x
 
-  pub part-put : (st : List ℕ) → PartRep n b c m st → elem (blockWord (shapeOf c .kind) g) st ≡ false → PartRep n (put b c m g) c (suc m) (blockWord (shapeOf c .kind) g ∷ st)
+  pub part-put : (st : List ℕ) → PartRep n b c m st → elem (blockWord (shapeOf (poolId c) .kind) g) st ≡ false → PartRep n (put b c m g) c (suc m) (blockWord (shapeOf (poolId c) .kind) g ∷ st)
   part-put st r out =
       let new : entryIn (put b c m g) c m ≡ g = entry-place b₁ g m c m hc hm′ ∙ entry-entry b c hc m hm′ g (omega arith) in
       let old : (j : ℕ) → j < m → entryIn (put b c m g) c j ≡ entryIn b c j = λ j h. entry-place b₁ g m c j hc (omega arith) ∙ entry-same b c hc m hm′ g j h in
-      let far : (j : ℕ) → j < m → entryIn b c j ≡ g → ⊥ = λ j h e. true≢false (sym (in-stock b c g m j h e) ∙ ap (elem (blockWord (shapeOf c .kind) g)) (r .same) ∙ out) in
-      let here : placeIn (put b c m g) g ≡ m = place-place b₁ g m (omega (arith, long₁, place-bound n g lg)) (omega arith) in
+      let far : (j : ℕ) → j < m → entryIn b c j ≡ g → ⊥ = λ j h e. true≢false (sym (in-stock b c g m j h e) ∙ ap (elem (blockWord (shapeOf (poolId c) .kind) g)) (r .same) ∙ out) in
+      let here : placeIn (put b c m g) g ≡ m = place-place b₁ g m (omega (arith, long₁, place-bound n g (omega (arith, shape-sound (poolId c) .wide)))) (omega arith) in
       record {
-        same = ap₂ _∷_ (ap (blockWord (shapeOf c .kind)) new) (from-kept b (put b c m g) c m old ∙ r .same);
+        same = ap₂ _∷_ (ap (blockWord (shapeOf (poolId c) .kind)) new) (from-kept b (put b c m g) c m old ∙ r .same);
         low = λ j h. by-cases (eqb j m)
             (λ e. let z = ap (entryIn (put b c m g) c) (eqb-true j m e) in omega arith)
             (λ e. let l = below-of j m h (eqb-false j m e) in omega (arith, old j l, r .low j l));
@@ -177,10 +178,10 @@ module _ (n : ℕ) (b : List ℕ) (long : words n ≤ length b) (c : ℕ) (hc : 
       (counted-own n b c hc (t .left) (omega arith) (omega (arith, r .few, t .count)) ws
       (record { same = t .rest; low = λ k h. r .low k (omega (arith, t .count)); placed = λ k h. r .placed k (omega (arith, t .count)) }))
 
-  module _ (g : ℕ) (lg : g < 4096 * n) (hk : countIn b c < countMax) where
-    pub push-own : (st : List ℕ) → StockRep n b c st → elem (blockWord (shapeOf c .kind) g) st ≡ false → StockRep n (pushed b c g) c (blockWord (shapeOf c .kind) g ∷ st)
+  module _ (g : ℕ) (lg : g + shapeOf (poolId c) .block ≤ 4096 * n) (hk : countIn b c < countMax) where
+    pub push-own : (st : List ℕ) → StockRep n b c st → elem (blockWord (shapeOf (poolId c) .kind) g) st ≡ false → StockRep n (pushed b c g) c (blockWord (shapeOf (poolId c) .kind) g ∷ st)
     push-own st r out =
-        counted-own n (put b c (countIn b c) g) c hc (suc (countIn b c)) (omega (arith, long-put n b long c hc (countIn b c) hk g lg)) (omega arith) (blockWord (shapeOf c .kind) g ∷ st)
+        counted-own n (put b c (countIn b c) g) c hc (suc (countIn b c)) (omega (arith, long-put n b long c hc (countIn b c) hk g lg)) (omega arith) (blockWord (shapeOf (poolId c) .kind) g ∷ st)
         (part-put n b long c hc (countIn b c) hk g lg st (whole-part n b c st r) out)
 
     pub push-other : (d : ℕ) → ltb d classCount ≡ true → eqb d c ≡ false → (st : List ℕ) → StockRep n b d st → ((j : ℕ) → j < countIn b d → entryIn b d j ≡ g → ⊥) → StockRep n (pushed b c g) d st
@@ -189,7 +190,7 @@ module _ (n : ℕ) (b : List ℕ) (long : words n ≤ length b) (c : ℕ) (hc : 
 -- ---- a take's blocks: the class's, in the arena, and none of them twice or in the stock so far
 abbrev pub Fresh : ℕ → ℕ → List ℕ → List ℕ → Type 0
 Fresh n c st [] = Unit {0}
-Fresh n c st (w ∷ ws) = (w ≡ blockWord (shapeOf c .kind) (granuleOf w)) × (granuleOf w < 4096 * n) × (elem w st ≡ false) × Fresh n c (w ∷ st) ws
+Fresh n c st (w ∷ ws) = (w ≡ blockWord (shapeOf (poolId c) .kind) (granuleOf w)) × (granuleOf w + shapeOf (poolId c) .block ≤ 4096 * n) × (elem w st ≡ false) × Fresh n c (w ∷ st) ws
 
 module _ (n c : ℕ) (hc : ltb c classCount ≡ true) where
   all-put : (ws : List ℕ) (b : List ℕ) (m : ℕ) (st : List ℕ) → words n ≤ length b → m + length ws ≤ countMax → PartRep n b c m st → Fresh n c st ws

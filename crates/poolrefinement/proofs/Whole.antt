@@ -1,11 +1,10 @@
--- Every request on the words is the model's, after every history of the pool: so number 13 never answers.
+-- Every request on the words is the model's, after every history: so number 13 never answers.
 use Rattle.facts.proofs.Prelude.{ℕ, zero, suc, _+_, _≤_, arith, Bool, true, false, cond, not, List, [], _∷_, _++_, _≡_, refl, sym, ap, _∙_, subst, ltb, length, not-false, by-cases}
 use Rattle.words.specs.Host.{badHost}
-use Rattle.classes.specs.Shape.{shapeOf, classCount}
+use Rattle.classes.specs.Shape.{shapeOf, classCount, poolId}
 use Rattle.rules.specs.Rules.{Rules}
 use Rattle.fields.specs.Ranges.{maxPages}
-use Rattle.model.specs.Calls as Calls
-use Rattle.model.specs.Calls.{Call}
+use Rattle.model.specs.Calls.{Call, pooledRelease}
 use Rattle.model.specs.Release.{ofKind}
 use Rattle.model.specs.Heap.{newHeap, step}
 use Rattle.model.specs.Entries.{Entry}
@@ -31,12 +30,12 @@ length-from b c (suc m) = ap suc (length-from b c m)
 
 module _ (n : ℕ) (hn : n ≤ maxPages) (P : Pool) (b : List ℕ) (R : PoolRep n b P) (ok : Reached n (P .heap)) (reach : (x : Call) → Reached n (step n (P .heap) x .heap)) (listed : (c : ℕ) → Listed (shapeOf c) (P .heap .classes c))
     (m k : ℕ) (es gs : List Entry) (f : ℕ → Bool) (l : ℕ → ℕ) (K : PoolInv n m k P es gs f l) (c : ℕ) (hc : ltb c classCount ≡ true) where
-  alloc-agrees : (h : ℕ) → badHost h ≡ false → (st : List ℕ) → P .stock c ≡ st → PoolAgrees n (requestOn n b c (alloc h)) (carry n P c (alloc h) (planAlloc h st))
+  alloc-agrees : (h : ℕ) → badHost h ≡ false → (st : List ℕ) → P .stock c ≡ st → PoolAgrees n (requestOn n b c (alloc h)) (carry n P c (alloc h) (planAlloc c h st))
   unfolding planAlloc
   alloc-agrees h fine [] e = taken-agrees n hn P b R ok listed m k es gs f l K c hc h fine e (reach _)
   alloc-agrees h fine (w ∷ ws) e = popped-agrees n hn P b R ok listed m k es gs f l K c hc w ws e h
 
-  trim-agrees : (h : ℕ) → badHost h ≡ false → (st : List ℕ) → P .stock c ≡ st → PoolAgrees n (requestOn n b c (trim h)) (carry n P c (trim h) (planTrim h st))
+  trim-agrees : (h : ℕ) → badHost h ≡ false → (st : List ℕ) → P .stock c ≡ st → PoolAgrees n (requestOn n b c (trim h)) (carry n P c (trim h) (planTrim c h st))
   unfolding planTrim
   trim-agrees h fine [] e = bare-agrees n hn P b R ok listed m k es gs f l K c hc h e
   trim-agrees h fine (w ∷ ws) e = trimmed-agrees n hn P b R ok listed m k es gs f l K c hc h w fine (stock-out n hn m k P es gs f l K c w ws e) (reach _) ws e
@@ -46,14 +45,14 @@ module _ (n : ℕ) (hn : n ≤ maxPages) (P : Pool) (b : List ℕ) (R : PoolRep 
 
   module _ (h w : ℕ) (fine : badHost h ≡ false) where
     abbrev thePlan : Plan
-    thePlan = planFree (shapeOf c) (stockMost c) (P .heap .classes c) (P .stock c) h w
+    thePlan = planFree c (P .heap .classes (poolId c)) (P .stock c) h w
 
-    plan-granted : ofKind (shapeOf c .kind) w ≡ true → isGranted (shapeOf c) (P .heap .classes c) (P .stock c) w ≡ true
-        → thePlan ≡ cond (ltb (countIn b c) (stockMost c)) (stays freed (w ∷ P .stock c)) (goes (Calls.giveBack h (w ∷ [])) (P .stock c))
+    plan-granted : ofKind (shapeOf (poolId c) .kind) w ≡ true → isGranted (shapeOf (poolId c)) (P .heap .classes (poolId c)) (P .stock c) w ≡ true
+        → thePlan ≡ cond (ltb (countIn b c) (stockMost c)) (stays freed (w ∷ P .stock c)) (goes (pooledRelease c h (w ∷ [])) (P .stock c))
     unfolding planFree
     plan-granted kd g = rw (kd, g, count-is)
 
-    granted-agrees : ofKind (shapeOf c .kind) w ≡ true → isGranted (shapeOf c) (P .heap .classes c) (P .stock c) w ≡ true → PoolAgrees n (requestOn n b c (free h w)) (carry n P c (free h w) thePlan)
+    granted-agrees : ofKind (shapeOf (poolId c) .kind) w ≡ true → isGranted (shapeOf (poolId c)) (P .heap .classes (poolId c)) (P .stock c) w ≡ true → PoolAgrees n (requestOn n b c (free h w)) (carry n P c (free h w) thePlan)
     granted-agrees kd g =
         rw (plan-granted kd g)
         (by-cases (ltb (countIn b c) (stockMost c))
@@ -62,13 +61,13 @@ module _ (n : ℕ) (hn : n ≤ maxPages) (P : Pool) (b : List ℕ) (R : PoolRep 
 
     free-agrees : PoolAgrees n (requestOn n b c (free h w)) (carry n P c (free h w) thePlan)
     free-agrees =
-        by-cases (ofKind (shapeOf c .kind) w)
-        (λ kd. by-cases (isGranted (shapeOf c) (P .heap .classes c) (P .stock c) w)
+        by-cases (ofKind (shapeOf (poolId c) .kind) w)
+        (λ kd. by-cases (isGranted (shapeOf (poolId c)) (P .heap .classes (poolId c)) (P .stock c) w)
         (λ g. granted-agrees kd g)
         (λ g. grant-refused n hn P b R ok listed m k es gs f l K c hc h w kd g))
         (λ kd. kind-refused n hn P b R ok listed m k es gs f l K c hc h w kd)
 
-  request-agrees : (x : PoolRequest) → badHost (hostIn x) ≡ false → PoolAgrees n (requestOn n b c x) (carry n P c x (planOf c (P .heap .classes c) (P .stock c) x))
+  request-agrees : (x : PoolRequest) → badHost (hostIn x) ≡ false → PoolAgrees n (requestOn n b c x) (carry n P c x (planOf c (P .heap .classes (poolId c)) (P .stock c) x))
   request-agrees (alloc h) fine = alloc-agrees h fine (P .stock c) refl
   request-agrees (free h w) fine = free-agrees h w fine
   request-agrees (trim h) fine = trim-agrees h fine (P .stock c) refl

@@ -1,4 +1,4 @@
--- Every call of a pool history on the words, and such a history: each call gets the book as the last one left it. n is the arena's
+-- Every call of heap and pool on the words, and a history of both: each call gets the book as the last one left it. n is the arena's
 -- length. Assumes nothing.
 use Prim.Native.Nat.{ℕ}
 use mathlib.Core.Bool.{cond, not}
@@ -6,8 +6,10 @@ use mathlib.Core.List.{List, [], _∷_}
 use lib.Dec.{ltb}
 use Rattle.words.specs.Host.{badHost}
 use Rattle.classes.specs.Shape.{classCount}
+use Rattle.model.specs.Calls as Calls
+use Rattle.model.specs.Calls.{isPooled}
 use Rattle.refinement.specs.Run.{callReply}
-use Rattle.pool.specs.Pool.{PoolCall, PoolAnswer, PoolRequest, hostIn, to, direct, callBy, answered, refused}
+use Rattle.pool.specs.Pool.{PoolCall, PoolAnswer, PoolRequest, hostIn, to, heap, answered, refused}
 use Rattle.poolcalls.specs.Calls.{PoolReply, poolReply, requestOn}
 
 -- numbers 3 and 4, then the request
@@ -16,7 +18,7 @@ askOn n b c x = cond (badHost (hostIn x)) (poolReply (refused 3) b) (cond (not (
 
 unfoldable pub onCall : ℕ → List ℕ → PoolCall → PoolReply
 onCall n b (to c x) = askOn n b c x
-onCall n b (direct d) = poolReply (answered (callReply n b (callBy d) .answer)) (callReply n b (callBy d) .book)
+onCall n b (heap x) = cond (isPooled x) (poolReply (answered (Calls.refused 4)) b) (poolReply (answered (callReply n b x .answer)) (callReply n b x .book))
 
 -- the calls of a history in turn, each by f: what is answered, and the book after them
 module _ (f : List ℕ → PoolCall → PoolReply) where

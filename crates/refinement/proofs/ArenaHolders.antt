@@ -1,9 +1,9 @@
--- After every history a page is held by nobody, by the direct calls, or by one of the 76 classes.
+-- After every history a page is held by nobody, by the direct calls, or by one of the 152 classes.
 use Rattle.facts.proofs.Prelude.{ℕ, _+_, _-_, arith, Bool, true, false, cond, List, [], _∷_, some, Option·none-ne-some, _≡_, refl, sym, ap, eqb, ltb, ltb-true, lt-ltb, by-cases}
 use Rattle.words.specs.Limits.{classRows}
 use Rattle.rules.specs.Rules.{Rules}
 use Rattle.model.specs.Cover.{covers, coversAll, coversRun}
-use Rattle.classes.specs.Shape.{shapeOf, classCount}
+use Rattle.classes.specs.Shape.{shapeOf, classCount, poolId}
 use Rattle.model.specs.Calls as Calls
 use Rattle.model.specs.Calls.{Call, Request, Named, named, names, Way, hostOf}
 use Rattle.model.specs.Arena.{commit, grow}
@@ -25,35 +25,34 @@ pub known-passed : (who : Holder) (g : ℕ → ℕ) (w : ℕ → Holder) → isK
 known-passed who g w e k = record { at = λ y. by-cases (eqb (g y) 0) (λ d. rw d (k .at y)) (λ d. rw d e) }
 
 -- ---- a call that names a class names one of ours
-named-below : (t : Bool) (c : ℕ) (r : Request) (d : Named) → (t ≡ true → ltb c classCount ≡ true) → named t c r ≡ some d → ltb (d .class) classCount ≡ true
+named-below : (t : Bool) (c : ℕ) (r : Request) (d : Named) → (t ≡ true → ltb c classRows ≡ true) → named t c r ≡ some d → ltb (d .class) classRows ≡ true
 named-below true c r d h e = rw (sym (at c r d e)) (h refl)
   where
     at : (c : ℕ) (r : Request) (d : Named) → some (record { class = c; request = r }) ≡ some d → c ≡ d .class
     at c r d e = let z : record { class = c; request = r } ≡ d = cc in ap (λ x. x .class) z
 named-below false c r d h e = absurd (Option·none-ne-some d e)
 
--- a class that a caller names has a row
+-- a class that a caller names has a row, and so has the pool's class of its number
 pub row-known : (c : ℕ) → ltb c classCount ≡ true → ltb c classRows ≡ true
 row-known c e = lt-ltb c classRows (omega (arith, ltb-true c classCount e))
 
-small-named : (c : ℕ) → ltb c 64 ≡ true → ltb c classCount ≡ true
-small-named c e = lt-ltb c classCount (let z = ltb-true c 64 e in omega arith)
-
-medium-named : (c : ℕ) → ltb c 12 ≡ true → ltb (64 + c) classCount ≡ true
-medium-named c e = lt-ltb (64 + c) classCount (let z = ltb-true c 12 e in omega arith)
+pub pooled-class : (c : ℕ) → ltb c classCount ≡ true → ltb (poolId c) classRows ≡ true
+pooled-class c e = lt-ltb (poolId c) classRows (omega (arith, ltb-true c classCount e))
 
 pub small-class : (c : ℕ) → ltb c 64 ≡ true → ltb c classRows ≡ true
-small-class c e = row-known c (small-named c e)
+small-class c e = lt-ltb c classRows (omega (arith, ltb-true c 64 e))
 
 pub medium-class : (c : ℕ) → ltb c 12 ≡ true → ltb (64 + c) classRows ≡ true
-medium-class c e = row-known (64 + c) (medium-named c e)
+medium-class c e = lt-ltb (64 + c) classRows (omega (arith, ltb-true c 12 e))
 
-pub names-below : (x : Call) (d : Named) → names x ≡ some d → ltb (d .class) classCount ≡ true
-names-below (Calls.takeBlocks c h l) d e = named-below (ltb c 64) c _ d (small-named c) e
-names-below (Calls.mediumTakeBlocks c h l) d e = named-below (ltb c 12) (64 + c) _ d (medium-named c) e
-names-below (Calls.releaseBlocks c h ws) d e = named-below (ltb c 64) c _ d (small-named c) e
-names-below (Calls.mediumReleaseBlocks c h ws) d e = named-below (ltb c 12) (64 + c) _ d (medium-named c) e
-names-below (Calls.releaseBinChunks c h ws gs fs) d e = named-below (ltb c 64) c _ d (small-named c) e
+pub names-below : (x : Call) (d : Named) → names x ≡ some d → ltb (d .class) classRows ≡ true
+names-below (Calls.takeBlocks c h l) d e = named-below (ltb c 64) c _ d (small-class c) e
+names-below (Calls.mediumTakeBlocks c h l) d e = named-below (ltb c 12) (64 + c) _ d (medium-class c) e
+names-below (Calls.releaseBlocks c h ws) d e = named-below (ltb c 64) c _ d (small-class c) e
+names-below (Calls.mediumReleaseBlocks c h ws) d e = named-below (ltb c 12) (64 + c) _ d (medium-class c) e
+names-below (Calls.pooledTake c h l) d e = named-below (ltb c classCount) (poolId c) _ d (pooled-class c) e
+names-below (Calls.pooledRelease c h ws) d e = named-below (ltb c classCount) (poolId c) _ d (pooled-class c) e
+names-below (Calls.releaseBinChunks c h ws gs fs) d e = named-below (ltb c 64) c _ d (small-class c) e
 names-below (Calls.commit h m) d e = absurd (Option·none-ne-some d e)
 names-below (Calls.growFrontier h q old new) d e = absurd (Option·none-ne-some d e)
 names-below (Calls.release h q m) d e = absurd (Option·none-ne-some d e)
@@ -91,6 +90,8 @@ module _ (n : ℕ) (H : Heap) (k : Known (H .holder)) where
   direct-known (Calls.mediumTakeBlocks c h l) = same _
   direct-known (Calls.releaseBlocks c h ws) = same _
   direct-known (Calls.mediumReleaseBlocks c h ws) = same _
+  direct-known (Calls.pooledTake c h l) = same _
+  direct-known (Calls.pooledRelease c h ws) = same _
   direct-known (Calls.releaseBinChunks c h ws gs fs) = same _
   direct-known (Calls.commit h m) = search (after-cond, same, commit-known) depth 9
   direct-known (Calls.growFrontier h q old new) = search (after-cond, same, grow-known) depth 9
@@ -110,7 +111,7 @@ module _ (n : ℕ) (H : Heap) (k : Known (H .holder)) where
   route-known : (x : Call) {w : Way} → Goes x w → KnownAfter (route n H x w)
   route-known x (is-turned t) = same _
   route-known x (is-straight t e) = direct-known x
-  route-known x (is-class d t e) = class-known (d .class) (d .request) (row-known (d .class) (names-below x d e))
+  route-known x (is-class d t e) = class-known (d .class) (d .request) (names-below x d e)
 
   pub known-step : (x : Call) → Known (step n H x .heap .holder)
   unfolding step

@@ -25,7 +25,7 @@ pub record Reached (n : ℕ) (H : Heap) : Type 0 where
   pub bound : H .arena .frontier ≤ n
   -- held, in a hole, or at or above the frontier: once at most
   pub apart : (x : ℕ) → isHeld (H .holder x) + idle x (H .arena) ≤ 1
-  -- by nobody, the direct calls or one of the 76 classes
+  -- by nobody, the direct calls or one of the 152 classes
   pub known : Known (H .holder)
 
 pub reached-after : (n : ℕ) (rules : Rules) (xs : List Call) → Reached n (heapAfter n rules xs)

@@ -1,4 +1,4 @@
--- The classes' runs along the arena's steps: which are whole as before, which are new, which are gone. For class d below 76 with a
+-- The classes' runs along the arena's steps: which are whole as before, which are new, which are gone. For class d below 152 with a
 -- shape of 1 page or more.
 --     pages-whole     a step that passes no page to or from class d leaves its runs alone
 --     commit-whole    a commit for another holder is such a step; grow-whole, give-whole

@@ -6,8 +6,10 @@ use Rattle.facts.proofs.Prelude.{ap, _∙_, eqb, ltb, leb, length, ltb-true, lt
 use Rattle.rules.specs.Rules.{Rules}
 use Rattle.model.specs.Cover.{inRun, covers}
 use Rattle.words.specs.Limits.{holeSlots}
-use Rattle.fields.specs.Field.{Field, arena, class, hole, page, mark, out, slot, owner, size, state, held, holes, pageOff, get, put, ok, words}
+use Rattle.fields.specs.Field.{Field, arena, class, hole, page, mark, out, slot, owner, size, format, state, held, holes, pageOff, get, put, ok, words}
+use Rattle.fields.specs.Ranges.{formatValid}
 use Rattle.fields.proofs.Laws.{get-put-same, get-put-other, length-put}
+use Rattle.fields.proofs.Sound.{format-kept}
 use Rattle.fields.proofs.Changes.{differ}
 use Rattle.model.specs.Arena.{Arena}
 use Rattle.model.specs.Heap.{Heap, Holder, nobody, passTo, heldPages}
@@ -26,6 +28,7 @@ use Rattle.refinement.proofs.ArenaHeld.{heldOf}
 pub record Stands (n : ℕ) (b : List ℕ) (a : Arena) (w : ℕ → Holder) (f k : ℕ) : Type 0 where
   pub long : leb (words n) (length b) ≡ true
   pub length : get b (arena size) ≡ n
+  pub format : formatValid b ≡ true
   pub loads : loadArena b ≡ a
   pub state : get b (arena state) ≡ statusCode (a .status)
   pub held : get b (arena held) ≡ k
@@ -33,10 +36,10 @@ pub record Stands (n : ℕ) (b : List ℕ) (a : Arena) (w : ℕ → Holder) (f k
 
 -- the representation is such, and does not look at the classes
 pub rep-stands : (n : ℕ) (b : List ℕ) (H : Heap) → ArenaRep n b H → Stands n b (H .arena) (H .holder) (H .arena .frontier) (heldPages n H)
-rep-stands n b H r = record { long = r .long; length = r .length; loads = r .loads; state = r .state; held = r .held; owners = r .owners }
+rep-stands n b H r = record { long = r .long; length = r .length; format = r .format; loads = r .loads; state = r .state; held = r .held; owners = r .owners }
 
 pub stands-rep : {rules : Rules} (n : ℕ) (b : List ℕ) (a : Arena) (w : ℕ → Holder) (k : ℕ) (cs : ℕ → Class) → k ≡ heldOf n w → Stands n b a w (a .frontier) k → ArenaRep n b (heapOf rules a w cs)
-stands-rep n b a w k cs e s = record { long = s .long; length = s .length; loads = s .loads; state = s .state; held = s .held ∙ e; owners = s .owners }
+stands-rep n b a w k cs e s = record { long = s .long; length = s .length; format = s .format; loads = s .loads; state = s .state; held = s .held ∙ e; owners = s .owners }
 
 pub rep-classes : (n : ℕ) (b : List ℕ) (H : Heap) (cs : ℕ → Class) → ArenaRep n b H → ArenaRep n b (heapOf (H .rules) (H .arena) (H .holder) cs)
 rep-classes n b H cs r = stands-rep n b (H .arena) (H .holder) (heldPages n H) cs refl (rep-stands n b H r)
@@ -66,6 +69,7 @@ pub rep-kept : (n : ℕ) (b b′ : List ℕ) (H : Heap) → length (H .arena .st
 rep-kept n b b′ H few long k r = record {
   long = long-kept n b b′ long (r .long);
   length = k (arena size) refl refl ∙ r .length;
+  format = rw (format-kept b b′ (k (arena format) refl refl)) (r .format);
   loads = load-kept b b′ (rw (loads-number b (H .arena) (r .loads)) few) (λ g o e. k g o (stored-arenas g e)) ∙ r .loads;
   state = k (arena state) refl refl ∙ r .state;
   held = k (arena held) refl refl ∙ r .held;
@@ -90,6 +94,7 @@ module _ (n : ℕ) (b : List ℕ) (a : Arena) (w : ℕ → Holder) (f k : ℕ) (
       record {
         long = long-kept n b x (h .long) (s .long);
         length = h .kept (arena size) refl refl ∙ s .length;
+        format = rw (format-kept b x (h .kept (arena format) refl refl)) (s .format);
         loads = load-written x a′ z;
         state = z .status;
         held = h .kept (arena held) refl refl ∙ s .held;
@@ -108,6 +113,7 @@ module _ (n : ℕ) (b : List ℕ) (a : Arena) (w : ℕ → Holder) (f k : ℕ) (
         record {
           long = long-kept n b (own b q m v) (h .long) (s .long);
           length = h .kept (arena size) refl refl ∙ s .length;
+          format = rw (format-kept b (own b q m v) (h .kept (arena format) refl refl)) (s .format);
           loads = load-kept b (own b q m v) few-words (λ g o e. h .kept g o (owner-apart (inRun m q) g e)) ∙ s .loads;
           state = h .kept (arena state) refl refl ∙ s .state;
           held = h .kept (arena held) refl refl ∙ s .held;
@@ -123,6 +129,7 @@ module _ (n : ℕ) (b : List ℕ) (a : Arena) (w : ℕ → Holder) (f k : ℕ) (
         record {
           long = t .long;
           length = t .length;
+          format = t .format;
           loads = t .loads;
           state = t .state;
           held = t .held;
@@ -138,6 +145,7 @@ module _ (n : ℕ) (b : List ℕ) (a : Arena) (w : ℕ → Holder) (f k : ℕ) (
         record {
           long = rw length-put (s .long);
           length = get-put-other b (arena held) (arena size) j refl refl refl ∙ s .length;
+          format = rw (format-kept b c (get-put-other b (arena held) (arena format) j refl refl refl)) (s .format);
           loads = load-kept b c few-words (λ g o e. get-put-other b (arena held) g j refl o (differ (λ y. not (isStored y)) (arena held) g refl (rw e))) ∙ s .loads;
           state = get-put-other b (arena held) (arena state) j refl refl refl ∙ s .state;
           held = get-put-same n b (arena held) j (s .long) refl refl;

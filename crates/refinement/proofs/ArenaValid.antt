@@ -1,9 +1,12 @@
 -- Number 13's tests for the arena's steps pass on a book that stands for a reached heap.
+--     head-passes                    what every call tests: FORMAT and FRONTIER
 --     record-passes, holes-passes    the record, the holes
 --     commit-passes                  all that a commit tests
 --     give-passes, grow-passes       all that a give of held pages tests; all that a growth tests
 use Rattle.facts.proofs.Prelude.{ℕ, _+_, _≤_, arith, true, List, [], _∷_, _≡_, refl, sym, ap, _∙_, leb, length, le-leb, every, All, total, by-cases}
 use Rattle.fields.specs.Field.{arena, state, frontier, holes, holePages, held, get}
+use Rattle.fields.specs.Ranges.{headValid}
+use Rattle.fields.proofs.Sound.{head-made}
 use Rattle.words.specs.Limits.{holeSlots, holePagesMax}
 use Rattle.model.specs.declared.Hole.{Hole}
 use Rattle.model.specs.Arena.{Arena, Status, unasked, ready, disabled}
@@ -49,18 +52,19 @@ ends-range f [] each low = refl
 ends-range f (h ∷ hs) each low = rw (le-leb 1 (h .pages) (each .0), le-leb (h .first + h .pages) f (low .0)) (ends-range f hs (each .1) (low .1))
 
 module _ (n : ℕ) (b : List ℕ) (H : Heap) (rep : ArenaRep n b H) (r : Reached n H) where
+  pub head-passes : headValid n b ≡ true
+  head-passes = head-made n b (rep .format) (rw (loads-frontier b (H .arena) (rep .loads)) (r .bound))
+
   pub record-passes : recordValid n b ≡ true
   unfolding recordValid
   record-passes =
       let a = H .arena in
-      let f = loads-frontier b (H .arena) (rep .loads) in
       let k = loads-number b (H .arena) (rep .loads) in
       let t = loads-total b (H .arena) (rep .loads) in
       rw (
         rep .state,
         status-range (H .arena .status),
-        f,
-        le-leb (a .frontier) n (r .bound),
+        head-passes,
         k,
         le-leb (length (a .store .holes)) holeSlots (r .tidy .slots),
         t,

@@ -2,17 +2,16 @@
 --     setting-of           the standing facts, of a represented book
 --     represents-class     the book stands for the heap with that class's new state
 --     Stands               it stands for a reached heap whose class c has state t
-use Rattle.facts.proofs.Prelude.{ℕ, arith, true, false, List, _≡_, sym, subst, ltb, eq-eqb, ne-eqb, le-ltb, update}
+use Rattle.facts.proofs.Prelude.{ℕ, true, List, _≡_, sym, subst, ltb, eq-eqb, ne-eqb, update}
 use native.Mathlib.Decide.{ℕ-discrete}
 use Rattle.words.specs.Limits.{classRows}
 use Rattle.classes.specs.Shape.{shapeOf}
 use Rattle.classes.proofs.Shapes.{shape-sound}
-use Rattle.fields.specs.Field.{arena, frontier, get}
+use Rattle.fields.specs.Field.{arena}
 use Rattle.model.specs.Class.{Class}
 use Rattle.model.specs.Heap.{Heap}
 use Rattle.refinement.specs.way.Represents.{StateRep, Represents}
 use Rattle.refinement.proofs.ArenaReached.{Reached, heapOf}
-use Rattle.refinement.proofs.ArenaValid.{loads-frontier}
 use Rattle.refinement.proofs.ArenaSteps.{rep-classes}
 use Rattle.refinement.proofs.GiveClass.{arena-only}
 use Rattle.refinement.proofs.Basics.{Setting}
@@ -38,9 +37,6 @@ module _ (n : ℕ) (b : List ℕ) (H : Heap) (R : Represents n b H) where
   setting-of c hc = record { long = R .arena .long; row = hc; shape = shape-sound c }
 
   module _ (ok : Reached n H) where
-    pub frontier-in : ltb n (get b (arena frontier)) ≡ false
-    frontier-in = le-ltb n (get b (arena frontier)) (omega (arith, loads-frontier b (H .arena) (R .arena .loads), ok .bound))
-
     pub represents-class : (b′ : List ℕ) (c : ℕ) (s : Class) → Only c b b′ → StateRep n b′ c (shapeOf c) s
         → Represents n b′ (heapOf (H .rules) (H .arena) (H .holder) (update (H .classes) c s))
     represents-class b′ c s h new = record {

@@ -6,7 +6,7 @@
 use Rattle.facts.proofs.Prelude.{ℕ, _+_, _≤_, arith, Bool, true, false, cond, List, [], _∷_, _++_, _⊎_, inl}
 use Rattle.facts.proofs.Prelude.{inr, some, _≡_, refl, sym, ap, _∙_, subst, eqb, ltb, eqb-true, by-cases}
 use Rattle.words.specs.Host.{badHost}
-use Rattle.classes.specs.Shape.{shapeOf}
+use Rattle.classes.specs.Shape.{shapeOf, classCount, poolId}
 use Rattle.rules.specs.Rules.{Rules}
 use Rattle.fields.specs.Ranges.{maxPages}
 use Rattle.model.specs.Calls as Calls
@@ -26,7 +26,7 @@ use Rattle.refinement.specs.way.Represents.{Represents}
 use Rattle.refinement.specs.Direct.{Reply, turnedReply}
 use Rattle.refinement.specs.Run.{classReply, callReply}
 use Rattle.refinement.proofs.ArenaReached.{reached-after, heap-next}
-use Rattle.refinement.proofs.ArenaHolders.{small-class, medium-class}
+use Rattle.refinement.proofs.ArenaHolders.{small-class, medium-class, pooled-class}
 use Rattle.refinement.proofs.Whole.{call-whole}
 use Rattle.refinement.proofs.Lengths.{Ours}
 use Rattle.refinement.proofs.LocalReply.{other-class, home-arena, books}
@@ -75,6 +75,8 @@ ours (Calls.takeBlocks c h l) p e = named-ours (ltb c 64) c (take h l) p (small-
 ours (Calls.mediumTakeBlocks c h l) p e = named-ours (ltb c 12) (64 + c) (take h l) p (medium-class c) e
 ours (Calls.releaseBlocks c h ws) p e = named-ours (ltb c 64) c (giveBack h ws) p (small-class c) e
 ours (Calls.mediumReleaseBlocks c h ws) p e = named-ours (ltb c 12) (64 + c) (giveBack h ws) p (medium-class c) e
+ours (Calls.pooledTake c h l) p e = named-ours (ltb c classCount) (poolId c) (take h l) p (pooled-class c) e
+ours (Calls.pooledRelease c h ws) p e = named-ours (ltb c classCount) (poolId c) (giveBack h ws) p (pooled-class c) e
 ours (Calls.releaseBinChunks c h ws gs fs) p e = named-ours (ltb c 64) c (giveChunks h ws gs fs) p (λ z. z) e
 ours (Calls.commit h m) p e = absurd (let z : _≡_ {A = ℕ} 0 1 = cc in omega arith)
 ours (Calls.growFrontier h q old new) p e = absurd (let z : _≡_ {A = ℕ} 0 1 = cc in omega arith)

@@ -6,9 +6,9 @@
 --     chunks-whole     every group release, refused or not, of any fates, the gives included
 --     chunks-after     the same after any history
 use Rattle.facts.proofs.Prelude.{ℕ, _+_, _≤_, arith, true, false, not, _&&_, _||_, false≢true, List, [], _∷_, _++_, map, Option, none, some, _≡_, refl, sym, ap, _∙_, subst}
-use Rattle.facts.proofs.Prelude.{eqb, ltb, length, drop, length-append, eqb-true, eq-eqb, not-false, isNil, every, All, distinct, by-cases, bool-eq, and-left, and-right}
+use Rattle.facts.proofs.Prelude.{eqb, ltb, length, drop, length-append, eqb-true, eq-eqb, not-false, isNil, every, All, distinct, by-cases, bool-eq, and-left, and-right, lt-ltb, ltb-true}
 use Rattle.words.specs.Word.{chunkKind, countOf, pageOf}
-use Rattle.classes.specs.Shape.{smallShape, shapeOf}
+use Rattle.classes.specs.Shape.{smallShape, shapeOf, classCount}
 use Rattle.rules.specs.declared.Limits.{Limits}
 use Rattle.rules.specs.Rules.{Rules}
 use Rattle.fields.specs.Field.{arena, class, page, free, carved, get}
@@ -33,13 +33,13 @@ use Rattle.refinement.specs.Releases.{chunksReply}
 use Rattle.refinement.proofs.Basics.{setting-kept}
 use Rattle.refinement.proofs.Frames.{ofClass}
 use Rattle.refinement.proofs.ArenaReached.{Reached, reached-after}
-use Rattle.refinement.proofs.ArenaValid.{give-passes}
+use Rattle.refinement.proofs.ArenaValid.{give-passes, head-passes}
 use Rattle.refinement.proofs.Draw.{free-length}
 use Rattle.refinement.proofs.Book.{Stands, stands, setting, state-rep}
 use Rattle.refinement.proofs.Found.{Located, located, located-passes, At, found-at, placed-rep}
 use Rattle.refinement.proofs.Returned.{none-count, return-only, return-rep, return-room}
 use Rattle.refinement.proofs.Release.{length-firsts}
-use Rattle.refinement.proofs.ReleaseValid.{row-valid, page-valid, frontier-valid}
+use Rattle.refinement.proofs.ReleaseValid.{row-valid, page-valid}
 use Rattle.refinement.proofs.ReleaseGives.{Acts, all-held}
 use Rattle.refinement.proofs.ChunkTests.{same-blocks, chunks-same}
 use Rattle.refinement.proofs.Chunks.{every-blocks, once-blocks, Waits, ChunksRep, chunks-rep}
@@ -48,7 +48,7 @@ use Rattle.refinement.proofs.Releases.{Refusal, tested, past-ten, Ends,
 
 pub small-shape : (c : ℕ) → ltb c 64 ≡ true → isMedium (shapeOf c) ≡ false
 unfolding shapeOf smallShape
-small-shape c e = rw e
+small-shape c e = rw (lt-ltb c classCount (omega (arith, ltb-true c 64 e)), e)
 
 -- what a release comes to that passes
 abbrev pub chunksAct : List ℕ → ℕ → ℕ → List ℕ → List ℕ → List ℕ → ChunksReleased
@@ -151,7 +151,7 @@ module _ {n : ℕ} {b : List ℕ} {c : ℕ} {t : Class} (hn : n ≤ maxPages) (B
       unfolding chunksValid
       chunks-valid =
           rw (
-            frontier-valid n b (B .heap) (B .represents) (B .reached) c,
+            head-passes n b (B .heap) (B .represents .arena) (B .reached),
             all-valid gs fits,
             row-valid (setting B) (state-rep B) (B .represents .rules c (B .row)),
             give-passes n b (B .heap) (B .represents .arena) (B .reached) (pagesGiven b c (shapeOf c) gs) given-held,

@@ -181,7 +181,7 @@ module _ (n : ℕ) (b : List ℕ) (H : Heap) (rep : ArenaRep n b H) (r : Reached
 
   settle-contains : (o k : ℕ) → Settled (reply 0 (Calls.contained (containsCall n b o k)) b) (directCall n H (Calls.contains o k))
   unfolding containsCall directCall
-  settle-contains o k = rw (rep .loads) (settle-same 0 (λ z. omega arith) (Calls.contained (Model.contains n o k (H .arena))))
+  settle-contains o k = rw (rep .format, rep .loads) (settle-same 0 (λ z. omega arith) (Calls.contained (Model.contains n o k (H .arena))))
 
   settle-report : Classes n b H → Settled (reply (reportCode n b) (Calls.reported (figures n b)) b) (directCall n H Calls.report)
   unfolding reportCode directCall
@@ -193,6 +193,8 @@ module _ (n : ℕ) (b : List ℕ) (H : Heap) (rep : ArenaRep n b H) (r : Reached
   settle-direct cs (Calls.mediumTakeBlocks c h l) = settle-refused 4 (λ z. omega arith)
   settle-direct cs (Calls.releaseBlocks c h ws) = settle-refused 4 (λ z. omega arith)
   settle-direct cs (Calls.mediumReleaseBlocks c h ws) = settle-refused 4 (λ z. omega arith)
+  settle-direct cs (Calls.pooledTake c h l) = settle-refused 4 (λ z. omega arith)
+  settle-direct cs (Calls.pooledRelease c h ws) = settle-refused 4 (λ z. omega arith)
   settle-direct cs (Calls.releaseBinChunks c h ws gs fs) = settle-refused 4 (λ z. omega arith)
   settle-direct cs (Calls.commit h m) = settle-commit h m
   settle-direct cs (Calls.growFrontier h q old new) = settle-grow h q old new

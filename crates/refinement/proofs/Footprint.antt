@@ -56,7 +56,7 @@ module _ (n : ℕ) (b : List ℕ) (sh : Shape) (c : ℕ) (hc : ltb c classRows �
   pub off-arena : ArenaIn (off n b sh c)
   off-arena = record {
     low = λ j l. low-off j (omega arith) (λ z. omega arith);
-    high = λ j l. low-off (1024 + j) (omega arith) (λ z. omega (arith, ltb-true));
+    high = λ j l. low-off (2048 + j) (omega arith) (λ z. omega (arith, ltb-true));
   }
 
   -- a page of another holder

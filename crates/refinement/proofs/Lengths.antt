@@ -21,7 +21,7 @@ use Rattle.refinement.specs.Run.{classReply}
 use Rattle.refinement.proofs.ArenaFrames.{given-changes}
 use Rattle.refinement.proofs.ArenaReached.{Reached}
 use Rattle.refinement.proofs.CommitRep.{commit-for}
-use Rattle.refinement.proofs.Book.{setting-of, frontier-in, Stands, stands}
+use Rattle.refinement.proofs.Book.{setting-of, Stands, stands}
 use Rattle.refinement.proofs.Join.{changes, written}
 use Rattle.refinement.proofs.Take.{TakeRep, did, asked, take-own}
 use Rattle.refinement.proofs.TakeWhole.{run-only, run-fills}
@@ -31,6 +31,7 @@ use Rattle.refinement.proofs.Releases.{Ends, denied}
 use Rattle.refinement.proofs.ReleaseWhole.{release-rep}
 use Rattle.refinement.proofs.ChunkWhole.{chunks-ends}
 use Rattle.refinement.proofs.ArenaHolders.{small-class}
+use Rattle.refinement.proofs.ArenaValid.{head-passes}
 
 -- the classes that a request may be made of: group releases are the small classes'
 abbrev pub Ours : ℕ → Request → Type 0
@@ -73,7 +74,7 @@ module _ (n : ℕ) (hn : n ≤ maxPages) (b : List ℕ) (H : Heap) (R : Represen
     take-long y =
         by-cases (ltb (length l) (shapeOf c .batch)) (λ u. rw u)
         (λ u. rw u (own-long (take-own (setting-of n b H R c hc) l h (H .classes c .partial) (H .classes c .empty) (H .classes c .cold) (H .classes c .full)
-        (frontier-in n b H R ok) (y .partial) (R .classes c hc))))
+        (head-passes n b H (R .arena) ok) (y .partial) (R .classes c hc))))
 
   -- ---- any request
   pub reply-long : Listed (shapeOf c) (H .classes c) → (x : Request) → Ours c x → length (classReply n b c x .book) ≡ length b

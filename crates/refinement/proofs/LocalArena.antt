@@ -22,7 +22,7 @@ use Rattle.refinement.proofs.LocalPages.{carve-in}
 -- the record and the holes lie in S
 pub record ArenaIn (S : ℕ → Bool) : Type 0 where
   pub low : (j : ℕ) → j < 160 → S j ≡ true
-  pub high : (j : ℕ) → j < 8192 → S (1024 + j) ≡ true
+  pub high : (j : ℕ) → j < 8192 → S (2048 + j) ≡ true
 
 -- the m pages from q on lie in S
 abbrev pub RunIn : (ℕ → Bool) → ℕ → ℕ → Type 0

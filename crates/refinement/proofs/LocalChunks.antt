@@ -2,10 +2,10 @@
 --     chunks-in      the chunks in order
 --     group-local    the release keeps to the class's words, and the arena's where it gives
 use Rattle.facts.proofs.Prelude.{ℕ, _+_, _≤_, _<_, arith, Bool, true, false, List, [], _∷_, _++_, map, _⊎_, _≡_, refl}
-use Rattle.facts.proofs.Prelude.{subst, ltb, leb, leb-true, ltb-true, All, every, distinct, and-left, and-right}
+use Rattle.facts.proofs.Prelude.{subst, ltb, leb, leb-true, ltb-true, All, every, distinct, and-left, and-right, lt-ltb}
 use Rattle.words.specs.Word.{pageOf}
 use Rattle.classes.specs.declared.Shape.{Shape}
-use Rattle.classes.specs.Shape.{smallShape, shapeOf}
+use Rattle.classes.specs.Shape.{smallShape, shapeOf, classCount}
 use Rattle.rules.specs.declared.Limits.{Limits}
 use Rattle.fields.specs.Field.{page, first}
 use Rattle.fields.specs.Ranges.{maxPages}
@@ -82,7 +82,7 @@ module _ (S : ℕ → Bool) {n c : ℕ} {sh : Shape} (hn : n ≤ maxPages) (lim 
 -- ---- the whole call, of a small class: its runs have one page
 one-page : (c : ℕ) → ltb c 64 ≡ true → (x y : ℕ) → x ≤ y → y < x + shapeOf c .pages → x ≡ y
 unfolding shapeOf smallShape
-one-page c e x y l u = let z : y < x + 1 = rw e at u in omega arith
+one-page c e x y l u = let z : y < x + 1 = rw (lt-ltb c classCount (omega (arith, ltb-true c 64 e)), e) at u in omega arith
 
 module _ {S : ℕ → Bool} (n : ℕ) (hn : n ≤ maxPages) (b : List ℕ) (H : Heap) (R : Represents n b H) (ok : Reached n H) (c : ℕ) (hs : ltb c 64 ≡ true) (hm : Home S n b c (shapeOf c)) (d : List ℕ)
     (H′ : Heap) (R′ : Represents n (override S b d) H′) (ok′ : Reached n H′) (et : H′ .classes c ≡ H .classes c) (h : ℕ) where

@@ -24,8 +24,8 @@ use Rattle.calls.specs.Chunks.{releaseChunks}
 use Rattle.refinement.specs.way.Represents.{StateRep, Represents}
 use Rattle.refinement.specs.Run.{classReply}
 use Rattle.refinement.proofs.ArenaReached.{Reached}
-use Rattle.refinement.proofs.ArenaValid.{loads-frontier}
-use Rattle.refinement.proofs.Book.{setting-of, state-as, frontier-in}
+use Rattle.refinement.proofs.ArenaValid.{loads-frontier, head-passes}
+use Rattle.refinement.proofs.Book.{setting-of, state-as}
 use Rattle.pages.proofs.Runs.{whole-owner, whole-below}
 use Rattle.refinement.proofs.ArenaHolders.{small-class}
 use Rattle.refinement.proofs.Override.{override, override-same, PageIn, swapped}
@@ -56,7 +56,7 @@ module _ {S : ℕ → Bool} (n : ℕ) (hn : n ≤ maxPages) (b : List ℕ) (H : 
       → classReply n (override S b d) c x .book ≡ override S (classReply n b c x .book) d
   unfolding answer
   reply-local (take h l) hc a =
-      take-local d (setting-of n b H R c hc) (setting-of n (override S b d) H′ R′ c hc) hm (frontier-in n b H R ok) (frontier-in n (override S b d) H′ R′ ok′) h l (H .classes c)
+      take-local d (setting-of n b H R c hc) (setting-of n (override S b d) H′ R′ c hc) hm (head-passes n b H (R .arena) ok) (head-passes n (override S b d) H′ (R′ .arena) ok′) h l (H .classes c)
       (λ u. go u a) (listed .partial) (R .classes c hc) (state-as R′ hc et)
     where
       go : ltb (length l) (shapeOf c .batch) ≡ false → StaysHome (answer (shapeOf c) (H .rules c) (H .classes c) (take h l)) ⊎ Abroad S H H′ c

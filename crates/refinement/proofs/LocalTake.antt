@@ -1,7 +1,8 @@
 -- A take from the class's own pages keeps to the class's words.
 use Rattle.facts.proofs.Prelude.{ℕ, Bool, true, false, true≢false, List, [], _∷_, map, _⊎_, inl, inr, _≡_, refl, sym, ltb, length, by-cases}
 use Rattle.classes.specs.declared.Shape.{Shape}
-use Rattle.fields.specs.Field.{arena, partial, frontier, get}
+use Rattle.fields.specs.Field.{partial}
+use Rattle.fields.specs.Ranges.{headValid}
 use Rattle.model.specs.Page.{Page, reused}
 use Rattle.model.specs.Class as Model
 use Rattle.model.specs.Class.{Class, Ask, done, asks, lists, thawed, takeFrom}
@@ -26,7 +27,7 @@ home-done (stays s a) = refl
 
 -- two books that stand for one state of the class; n where no page is at hand
 module _ {S : ℕ → Bool} {n : ℕ} {b : List ℕ} {c : ℕ} {sh : Shape} (d : List ℕ) (s : Setting n b c sh) (s′ : Setting n (override S b d) c sh) (hm : Home S n b c sh)
-    (low : ltb n (get b (arena frontier)) ≡ false) (low′ : ltb n (get (override S b d) (arena frontier)) ≡ false) (h : ℕ) (l : List ℕ) where
+    (low : headValid n b ≡ true) (low′ : headValid n (override S b d) ≡ true) (h : ℕ) (l : List ℕ) where
   -- it stays at home, or a new run is local too
   abbrev pub Asks : Ask → Type 0
   Asks q = StaysHome q ⊎ ((fs : List Page) → StateRep n b c sh (lists [] [] [] fs) → takeNew n (override S b d) c sh h l .book ≡ override S (takeNew n b c sh h l .book) d)

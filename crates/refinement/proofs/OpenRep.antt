@@ -4,14 +4,15 @@
 --     opened-represents    the whole
 use Rattle.facts.proofs.Prelude.{ℕ, zero, suc, _+_, _≤_, _<_, arith, Bool, true, false, _&&_, List, _≡_, refl, sym, ap, _∙_, eqb, ltb, leb, length, getD}
 use Rattle.facts.proofs.Prelude.{length-set, getD-set-same, getD-set-other, eqb-true, eqb-false, leb-true, lt-leb, ltb-true, lt-ltb, total, below, by-cases, and-no}
-use Rattle.words.specs.Limits.{classRows}
+use Rattle.words.specs.Limits.{classRows, bookFormat}
 use Rattle.classes.specs.Shape.{shapeOf}
 use Rattle.classes.proofs.Shapes.{shape-sound}
 use Rattle.rules.specs.declared.Limits.{Limits}
 use Rattle.rules.specs.Rules.{Rules, Fit}
-use Rattle.fields.specs.Field.{Field, arena, class, ClassField, partial, empty, emptyCount, cold, coldCount, emptyLimit, coldLimit, size, state, frontier, holes, holePages, commits, commitsHigh, reuses, reusesHigh, abandoned, abandonedHigh, held, classOff, region, off, word, part, read, get, put, same, ok, words}
+use Rattle.fields.specs.Field.{Field, arena, class, ClassField, partial, empty, emptyCount, cold, coldCount, emptyLimit, coldLimit, size, format, state, frontier, holes, holePages, commits, commitsHigh, reuses, reusesHigh, abandoned, abandonedHigh, held, classOff, region, off, word, part, read, get, put, same, ok, words}
 use Rattle.fields.proofs.Laws.{get-put-same, get-put-other, length-put}
 use Rattle.fields.proofs.Changes.{Changes, changes-none, changes-put}
+use Rattle.fields.specs.Ranges.{formatValid}
 use Rattle.pages.specs.Valid.{limitsAt}
 use Rattle.model.specs.Arena.{newArena}
 use Rattle.model.specs.Class.{newClass}
@@ -87,30 +88,41 @@ module _ (n : ℕ) (rules : Rules) (b : List ℕ) (long : leb (words n) (length 
   enough = omega (arith, leb-true (words n) (length b) long)
 
   head : List ℕ
-  head = put (cleared b headWords) (arena size) n
+  head = put (put (cleared b headWords) (arena size) n) (arena format) bookFormat
 
   head-long : leb (words n) (length head) ≡ true
   unfolding head
-  head-long = rw (length-put (cleared b headWords) (arena size) n, cleared-length b headWords) long
+  head-long = simp (length-put, cleared-length b headWords) long
 
   limiting : Changes isRule head (opened n rules b)
   unfolding opened head
-  limiting = ruled-changes (put (cleared b headWords) (arena size) n) rules classRows (omega arith)
+  limiting = ruled-changes head rules classRows (omega arith)
 
-  -- every field before the holes but LENGTH and the limits
-  opened-zero : (g : Field) → ok g ≡ true → isRule g ≡ false → same (arena size) g ≡ false → word g < 768 → get (opened n rules b) g ≡ read (part g) 0
+  -- every field before the holes but LENGTH, FORMAT and the limits
+  opened-zero : (g : Field) → ok g ≡ true → isRule g ≡ false → same (arena size) g ≡ false → same (arena format) g ≡ false → word g < 1376
+      → get (opened n rules b) g ≡ read (part g) 0
   unfolding head headWords get
-  opened-zero g o r d l = limiting .kept g o r ∙ get-put-other (cleared b 768) (arena size) g n refl o d ∙ ap (read (part g)) (cleared-at b 768 (word g) enough l)
+  opened-zero g o r d f l =
+      limiting .kept g o r ∙ get-put-other (put (cleared b 1376) (arena size) n) (arena format) g bookFormat refl o f
+      ∙ get-put-other (cleared b 1376) (arena size) g n refl o d ∙ ap (read (part g)) (cleared-at b 1376 (word g) enough l)
 
   opened-row : (k : ClassField) (c : ℕ) → ltb c classRows ≡ true → isRule (class k c) ≡ false → classOff k < 8 → get (opened n rules b) (class k c) ≡ 0
-  opened-row k c o r l = opened-zero (class k c) o r refl (omega (arith, ltb-true c classRows o))
+  opened-row k c o r l = opened-zero (class k c) o r refl refl (omega (arith, ltb-true c classRows o))
 
   opened-long : leb (words n) (length (opened n rules b)) ≡ true
   opened-long = rw (limiting .long) head-long
 
   opened-size : get (opened n rules b) (arena size) ≡ n
   unfolding head
-  opened-size = limiting .kept (arena size) refl refl ∙ get-put-same n (cleared b headWords) (arena size) n (rw (cleared-length b headWords) long) refl refl
+  opened-size =
+      limiting .kept (arena size) refl refl ∙ get-put-other (put (cleared b headWords) (arena size) n) (arena format) (arena size) bookFormat refl refl refl
+      ∙ get-put-same n (cleared b headWords) (arena size) n (rw (cleared-length b headWords) long) refl refl
+
+  opened-format : formatValid (opened n rules b) ≡ true
+  unfolding formatValid head
+  opened-format =
+      let c = put (cleared b headWords) (arena size) n in
+      rw (limiting .kept (arena format) refl refl, get-put-same n c (arena format) bookFormat (simp (length-put, cleared-length b headWords) long) refl refl)
 
   none-held : (k : ℕ) → total (λ (x : ℕ). 0) (below k) ≡ 0
   none-held zero = refl
@@ -121,18 +133,19 @@ module _ (n : ℕ) (rules : Rules) (b : List ℕ) (long : leb (words n) (length 
   opened-rep = record {
     long = opened-long;
     length = opened-size;
+    format = opened-format;
     loads = load-written (opened n rules b) newArena (record {
-      status = opened-zero (arena state) refl refl refl (omega arith);
-      frontier = opened-zero (arena frontier) refl refl refl (omega arith);
-      number = opened-zero (arena holes) refl refl refl (omega arith);
-      total = opened-zero (arena holePages) refl refl refl (omega arith);
+      status = opened-zero (arena state) refl refl refl refl (omega arith);
+      frontier = opened-zero (arena frontier) refl refl refl refl (omega arith);
+      number = opened-zero (arena holes) refl refl refl refl (omega arith);
+      total = opened-zero (arena holePages) refl refl refl refl (omega arith);
       holes = refl;
-      commits = rw (opened-zero (arena commits) refl refl refl (omega arith), opened-zero (arena commitsHigh) refl refl refl (omega arith));
-      reuses = rw (opened-zero (arena reuses) refl refl refl (omega arith), opened-zero (arena reusesHigh) refl refl refl (omega arith));
-      abandoned = rw (opened-zero (arena abandoned) refl refl refl (omega arith), opened-zero (arena abandonedHigh) refl refl refl (omega arith));
+      commits = rw (opened-zero (arena commits) refl refl refl refl (omega arith), opened-zero (arena commitsHigh) refl refl refl refl (omega arith));
+      reuses = rw (opened-zero (arena reuses) refl refl refl refl (omega arith), opened-zero (arena reusesHigh) refl refl refl refl (omega arith));
+      abandoned = rw (opened-zero (arena abandoned) refl refl refl refl (omega arith), opened-zero (arena abandonedHigh) refl refl refl refl (omega arith));
     });
-    state = opened-zero (arena state) refl refl refl (omega arith);
-    held = opened-zero (arena held) refl refl refl (omega arith) ∙ sym (none-held n);
+    state = opened-zero (arena state) refl refl refl refl (omega arith);
+    held = opened-zero (arena held) refl refl refl refl (omega arith) ∙ sym (none-held n);
     owners = λ x l. absurd (omega arith);
   }
 
@@ -140,7 +153,7 @@ module _ (n : ℕ) (rules : Rules) (b : List ℕ) (long : leb (words n) (length 
   none-whole : (c q : ℕ) → Runs.whole n (opened n rules b) (shapeOf c) c q ≡ false
   unfolding Runs.whole
   none-whole c q =
-      rw (opened-zero (arena frontier) refl refl refl (omega arith), lt-leb (q + shapeOf c .pages) 0 (omega (arith, shape-sound c .paged))) (and-no (leb (q + shapeOf c .pages) n))
+      rw (opened-zero (arena frontier) refl refl refl refl (omega arith), lt-leb (q + shapeOf c .pages) 0 (omega (arith, shape-sound c .paged))) (and-no (leb (q + shapeOf c .pages) n))
 
   pub opened-class : (c : ℕ) → ltb c classRows ≡ true → StateRep n (opened n rules b) c (shapeOf c) newClass
   opened-class c hc = record {
@@ -156,7 +169,7 @@ module _ (n : ℕ) (rules : Rules) (b : List ℕ) (long : leb (words n) (length 
 
   opened-rule : (c : ℕ) → ltb c classRows ≡ true → limitsAt (opened n rules b) c ≡ rules c
   unfolding opened head
-  opened-rule c hc = ruled-at n (put (cleared b headWords) (arena size) n) head-long rules classRows c (omega arith) (ltb-true c classRows hc)
+  opened-rule c hc = ruled-at n head head-long rules classRows c (omega arith) (ltb-true c classRows hc)
 
   pub opened-represents : ((c : ℕ) → Fit (rules c)) → Represents n (opened n rules b) (newHeap rules)
   unfolding newHeap

@@ -25,7 +25,7 @@ use Rattle.pages.proofs.Runs.{whole-below}
 use Rattle.refinement.proofs.Neighbours.{each-listed, each-head, each-beside}
 use Rattle.refinement.proofs.Draw.{free-length}
 use Rattle.refinement.proofs.ArenaReached.{Reached}
-use Rattle.refinement.proofs.ArenaValid.{loads-frontier}
+use Rattle.refinement.proofs.ArenaValid.{head-passes}
 use Rattle.refinement.proofs.GiveRep.{give-valid}
 use Rattle.refinement.proofs.GiveClass.{run-held}
 use Rattle.refinement.proofs.Found.{Placed, among, aside, placed-rep}
@@ -105,9 +105,6 @@ if-true false u e = refl
 
 -- a run of the class may be given
 module _ (n : ℕ) (b : List ℕ) (H : Heap) (R : Represents n b H) (ok : Reached n H) (c : ℕ) where
-  pub frontier-valid : leb (get b (arena frontier)) n ≡ true
-  frontier-valid = le-leb (get b (arena frontier)) n (omega (arith, loads-frontier b (H .arena) (R .arena .loads), ok .bound))
-
   run-valid : (q : ℕ) → whole n b (shapeOf c) c q ≡ true → giveValid n b (shapeOf c .pages) ≡ true
   run-valid q e = give-valid n b H (R .arena) ok q (shapeOf c .pages) (shape-sound c .paged) (run-held n b H (R .arena) (shapeOf c) c q e)
 
@@ -117,7 +114,7 @@ module _ (n : ℕ) (b : List ℕ) (H : Heap) (R : Represents n b H) (ok : Reache
   release-valid s {p = p} m room pl =
       let sh = shapeOf c in
       rw (
-        frontier-valid,
+        head-passes n b H (R .arena) ok,
         page-valid s m room pl,
         placed-row s (R .rules c (s .row)) pl,
         if-true (eqb (get b (page free (p .first)) + m) (get b (page carved (p .first))) && isArena (destinationAt b c sh)) (giveValid n b (sh .pages))

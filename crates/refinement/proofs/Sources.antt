@@ -1,7 +1,8 @@
 -- What a take comes to, source by source, on a book that stands for the class's state: number 13's tests pass.
-use Rattle.facts.proofs.Prelude.{ℕ, suc, arith, false, List, [], _∷_, map, _≡_, ltb, ne-eqb}
+use Rattle.facts.proofs.Prelude.{ℕ, suc, arith, true, List, [], _∷_, map, _≡_, ne-eqb}
 use Rattle.classes.specs.declared.Shape.{Shape}
-use Rattle.fields.specs.Field.{arena, class, partial, frontier, get}
+use Rattle.fields.specs.Field.{class, partial, get}
+use Rattle.fields.specs.Ranges.{headValid}
 use Rattle.model.specs.Page.{Page, reused}
 use Rattle.model.specs.Class as Model
 use Rattle.model.specs.Class.{lists, thawed}
@@ -15,7 +16,7 @@ use Rattle.refinement.proofs.Moves.{swap}
 use Rattle.refinement.proofs.Fill.{AllMore, pred}
 use Rattle.refinement.proofs.Plan.{walk-passes, park-passes}
 
-module _ {n : ℕ} {b : List ℕ} {c : ℕ} {sh : Shape} (s : Setting n b c sh) (low : ltb n (get b (arena frontier)) ≡ false) (h : ℕ) (l : List ℕ) where
+module _ {n : ℕ} {b : List ℕ} {c : ℕ} {sh : Shape} (s : Setting n b c sh) (low : headValid n b ≡ true) (h : ℕ) (l : List ℕ) where
   from-park : (k : Park) (p : Page) (xs ys fs : List Page) → ClassRep n b c sh k [] (p ∷ xs) ys fs
       → fromPark n b c sh k l ≡ took l (fillFrom (unparkRun b c k (p .first)) c sh (sh .batch) (sh .batch))
   unfolding fromPark

@@ -1,7 +1,8 @@
 -- A take from the class's own pages: on a represented book 13 never answers, and answer and book are the model's.
-use Rattle.facts.proofs.Prelude.{ℕ, arith, false, List, [], _∷_, map, _≡_, refl, ltb}
+use Rattle.facts.proofs.Prelude.{ℕ, arith, true, List, [], _∷_, map, _≡_, refl}
 use Rattle.classes.specs.declared.Shape.{Shape}
-use Rattle.fields.specs.Field.{arena, class, frontier, get}
+use Rattle.fields.specs.Field.{class}
+use Rattle.fields.specs.Ranges.{headValid}
 use Rattle.model.specs.Calls.{taken}
 use Rattle.model.specs.Page.{Page, reused}
 use Rattle.model.specs.Class as Model
@@ -56,7 +57,7 @@ module _ {n : ℕ} {b : List ℕ} {c : ℕ} {sh : Shape} (s : Setting n b c sh) 
   swapped : (k : Park) (xs ys fs : List Page) (w : Filled) (f : Model.Filled) → FillRep n b c sh k xs ys fs w f → FillRep n b c sh (other k) ys xs fs w f
   swapped k xs ys fs w f r = record { rep = swap (r .rep); blocks = r .blocks; virgin = r .virgin; only = r .only }
 
-  pub take-own : (h : ℕ) (ps es : List Page) (cs : List Model.Cold) (fs : List Page) → ltb n (get b (arena frontier)) ≡ false → AllMore sh ps
+  pub take-own : (h : ℕ) (ps es : List Page) (cs : List Model.Cold) (fs : List Page) → headValid n b ≡ true → AllMore sh ps
       → StateRep n b c sh (lists ps es cs fs) → TakeRep n b c sh h l (takeBlocks n b c sh h l) (takeFrom sh l ps es cs fs)
   unfolding takeFrom
   take-own h (p ∷ ps) es cs fs low g r =

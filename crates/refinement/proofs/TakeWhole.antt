@@ -41,10 +41,11 @@ use Rattle.refinement.proofs.Moves.{to-partial, link-only}
 use Rattle.refinement.proofs.Fill.{FillRep, fills}
 use Rattle.refinement.proofs.Take.{TakeRep, did, asked, take-own}
 use Rattle.refinement.proofs.Pushes.{carve-first}
-use Rattle.refinement.proofs.Book.{setting-of, frontier-in, classes-with, stands}
+use Rattle.refinement.proofs.Book.{setting-of, classes-with, stands}
 use Rattle.refinement.proofs.Releases as Releases
 use Rattle.refinement.proofs.Releases.{denied, ends-agree}
 use Rattle.refinement.proofs.Join.{none-arena, none-rule, none-stays, new-rule, new-setting, new-arena, new-reached, others-stay, class-joins}
+use Rattle.refinement.proofs.ArenaValid.{head-passes}
 
 -- a run just carved has a block
 carve-more : (sh : Shape) (q : ℕ) → 1 ≤ sh .capacity → (t : Bool) → Page.hasMore sh (carveAs sh t q true) ≡ true
@@ -152,7 +153,7 @@ module _ (n : ℕ) (b : List ℕ) (H : Heap) (R : Represents n b H) (ok : Reache
       (λ u. rw u (ends-agree (stands R ok hc refl) h (denied 5 (Calls.refused 5) refl)))
       (λ u. rw u (own-agrees h l _ _
       (take-own (setting-of n b H R c hc) l h (H .classes c .partial) (H .classes c .empty) (H .classes c .cold) (H .classes c .full)
-      (frontier-in n b H R ok) (y .partial) (R .classes c hc))))
+      (head-passes n b H (R .arena) ok) (y .partial) (R .classes c hc))))
 
 -- after every history on an arena of n pages
 pub take-after : (n : ℕ) (rules : Rules) (xs : List Call) (b : List ℕ) → Represents n b (heapAfter n rules xs) → (c : ℕ) → ltb c classRows ≡ true → (h : ℕ) (l : List ℕ)

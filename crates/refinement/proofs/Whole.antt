@@ -4,6 +4,7 @@
 --     run-represents     the book after it stands for the model's heap
 --     run-valid          number 13 is never answered
 use Rattle.facts.proofs.Prelude.{ℕ, _+_, _≤_, arith, true, List, [], _∷_, _++_, map, _≡_, refl, sym, subst, ltb, leb, length, All, by-cases}
+use Rattle.classes.specs.Shape.{classCount, poolId}
 use Rattle.words.specs.Host.{badHost}
 use Rattle.rules.specs.Rules.{Rules, Fit}
 use Rattle.fields.specs.Field.{words}
@@ -22,7 +23,7 @@ use Rattle.refinement.proofs.OpenRep.{opened-represents}
 use Rattle.refinement.proofs.TakeWhole.{take-after}
 use Rattle.refinement.proofs.ReleaseWhole.{release-after}
 use Rattle.refinement.proofs.ChunkWhole.{chunks-after}
-use Rattle.refinement.proofs.ArenaHolders.{small-class, medium-class}
+use Rattle.refinement.proofs.ArenaHolders.{small-class, medium-class, pooled-class}
 
 -- the calls ys on a book that stands for the heap H
 record RunRep (n : ℕ) (H : Heap) (b : List ℕ) (ys : List Call) : Type 0 where
@@ -45,6 +46,10 @@ module _ (n : ℕ) (hn : n ≤ maxPages) (rules : Rules) where
         by-cases (ltb c 64) (λ e. rw e (release-after n hn rules xs b R c (small-class c e) h ws)) (λ e. rw e (directly (Calls.releaseBlocks c h ws)))
     past-three (Calls.mediumReleaseBlocks c h ws) =
         by-cases (ltb c 12) (λ e. rw e (release-after n hn rules xs b R (64 + c) (medium-class c e) h ws)) (λ e. rw e (directly (Calls.mediumReleaseBlocks c h ws)))
+    past-three (Calls.pooledTake c h l) =
+        by-cases (ltb c classCount) (λ e. rw e (take-after n rules xs b R (poolId c) (pooled-class c e) h l)) (λ e. rw e (directly (Calls.pooledTake c h l)))
+    past-three (Calls.pooledRelease c h ws) =
+        by-cases (ltb c classCount) (λ e. rw e (release-after n hn rules xs b R (poolId c) (pooled-class c e) h ws)) (λ e. rw e (directly (Calls.pooledRelease c h ws)))
     past-three (Calls.releaseBinChunks c h ws gs fs) =
         by-cases (ltb c 64) (λ e. rw e (chunks-after n hn rules xs b R c e h ws gs fs)) (λ e. rw e (directly (Calls.releaseBinChunks c h ws gs fs)))
     past-three (Calls.commit h m) = directly (Calls.commit h m)

@@ -1,12 +1,14 @@
 -- The listed blocks come back to their page, and the arena is the last step.
 use Rattle.facts.proofs.Prelude.{ℕ, _+_, _≤_, _<_, arith, Bool, true, false, cond, not, _&&_, _||_, List, map, _≡_, refl, sym, ap, _∙_}
-use Rattle.facts.proofs.Prelude.{eqb, leb, length, length-map, leb-true, eqb-true, le-leb, lt-ltb, eq-eqb, ne-eqb, and-left, and-right}
+use Rattle.facts.proofs.Prelude.{eqb, leb, length, length-map, eqb-true, le-leb, lt-ltb, eq-eqb, ne-eqb, and-left, and-right}
 use Rattle.words.specs.Limits.{classRows}
 use Rattle.classes.specs.declared.Shape.{Shape}
 use Rattle.classes.specs.way.Sound.{Sound}
 use Rattle.fields.specs.Field.{Field, arena, class, hole, page, region, off, frontier, partial, empty, emptyCount, cold, coldCount, next, prev, free, carved, listed, virgin, get, put, words, ok, emptyLimit, coldLimit}
 use Rattle.fields.proofs.Laws.{get-put-same, length-put}
 use Rattle.fields.proofs.Changes.{Changes}
+use Rattle.fields.specs.Ranges.{headValid}
+use Rattle.fields.proofs.Sound.{head-frontier}
 use Rattle.model.specs.declared.Destination.{Destination}
 use Rattle.model.specs.declared.Destination.the-variants.{ToEmpty, ToCold, ToArena}
 use Rattle.model.specs.Destination.{isArena}
@@ -138,11 +140,11 @@ module _ (c : ℕ) (sh : Shape) (h q : ℕ) (hc : c < classRows) (s : Sound sh) 
 module _ (n : ℕ) (b : List ℕ) (c : ℕ) (sh : Shape) (q m : ℕ) (e : releaseValid n b c sh m q ≡ true) where
   pub valid-low : get b (arena frontier) ≤ n
   unfolding releaseValid
-  valid-low = leb-true (get b (arena frontier)) n (and-left _ _ e)
+  valid-low = head-frontier n b (and-left _ _ e)
 
   valid-rest : (pageValid b sh m q && (rowValid b c && destinationValid n b c sh m q)) ≡ true
   unfolding releaseValid
-  valid-rest = and-right (leb (get b (arena frontier)) n) _ e
+  valid-rest = and-right (headValid n b) _ e
 
   pub valid-page : pageValid b sh m q ≡ true
   valid-page = and-left (pageValid b sh m q) _ valid-rest

@@ -4,8 +4,9 @@ use Rattle.facts.proofs.Prelude.{sym, ap, _∙_, eqb, length, getD, eqb-true, e
 use Rattle.words.specs.Limits.{classRows}
 use Rattle.classes.specs.declared.Shape.{Shape}
 use Rattle.classes.specs.Shape.{shapeOf}
-use Rattle.fields.specs.Field.{arena, class, page, frontier, partial, out, mark, free, carved, get, put, words, Has}
+use Rattle.fields.specs.Field.{class, page, partial, out, mark, free, carved, get, put, words, Has}
 use Rattle.fields.proofs.Changes.{Changes}
+use Rattle.fields.specs.Ranges.{headValid}
 use Rattle.model.specs.Release.{ofKind}
 use Rattle.model.specs.Page.{wordOf}
 use Rattle.pages.specs.way.Pre.{LinkPre, WordPre}
@@ -26,7 +27,7 @@ use Rattle.release.specs.way.Act.{settleAt, RunPre, Answered, PreparedAt
 use Rattle.release.specs.way.One.{readyAt, staysValid, backReady, oneIn, oneReady, backBook, PutPre, BackPre, BackOne, OneIn, OneBack}
 use Rattle.release.proofs.Bits.{isBit, out-in, below-capacity}
 use Rattle.release.proofs.BlockSteps.{none-found, found-at}
-use Rattle.release.proofs.ValidSteps.{page-room, page-carved, head-low, above-arena, no-page, no-row, destination-last}
+use Rattle.release.proofs.ValidSteps.{page-room, page-carved, head-low, wrong-head, no-page, no-row, destination-last}
 use Rattle.release.proofs.MarkSteps.{block-here}
 use Rattle.release.proofs.BackSteps.{onStack, free-now, push-changes, valid-low, valid-row, valid-page}
 use Rattle.release.proofs.ReleaseSteps.{only-one, finished, run-pre, not-marked-at}
@@ -44,9 +45,9 @@ module _ (n : ℕ) (b : List ℕ) (c : ℕ) (sh : Shape) (q : ℕ) where
   unfolding destinationValid
   destination-stays d = rw d
 
-  module _ (f : ℕ) (l : f ≡ get b (arena frontier)) where
-    pub stays-above : n < f → false ≡ staysValid n b c sh q
-    stays-above h = not-valid (above-arena n b c sh 1 q f l h)
+  module _ (f : Bool) (l : f ≡ headValid n b) where
+    pub stays-wrong : not f ≡ true → false ≡ staysValid n b c sh q
+    stays-wrong h = not-valid (wrong-head n b c sh 1 q f l h)
 
     module _ (t : Bool) (e : t ≡ pageValid b sh 1 q) where
       pub stays-no-page : t ≡ false → false ≡ staysValid n b c sh q
@@ -56,7 +57,7 @@ module _ (n : ℕ) (b : List ℕ) (c : ℕ) (sh : Shape) (q : ℕ) where
         pub stays-no-row : u ≡ false → false ≡ staysValid n b c sh q
         stays-no-row y = not-valid (no-row n b c sh 1 q f l t e u x k y)
 
-        module _ (h : f ≤ n) (y : u ≡ true) (v w : ℕ) (i : v ≡ get b (page carved q)) (j : w ≡ get b (page free q)) where
+        module _ (h : not f ≡ false) (y : u ≡ true) (v w : ℕ) (i : v ≡ get b (page carved q)) (j : w ≡ get b (page free q)) where
           room : w + 1 ≤ v
           room = omega (arith, page-room b sh 1 q (sym e ∙ x))
 

@@ -7,10 +7,11 @@ use Rattle.facts.proofs.Prelude.{ltb, length, getD, eqb-true, le-leb, lt-ltb, l
 use Rattle.words.specs.Limits.{classRows}
 use Rattle.classes.specs.declared.Shape.{Shape}
 use Rattle.classes.specs.way.Sound.{Sound}
-use Rattle.fields.specs.Field.{arena, class, page, frontier, partial, empty, emptyCount, cold, coldCount, first, next, prev, free, carved, listed, virgin, get, words, Has, hole, emptyLimit, coldLimit}
+use Rattle.fields.specs.Field.{arena, class, page, format, frontier, partial, empty, emptyCount, cold, coldCount, first, next, prev, free, carved, listed, virgin, get, words, Has, hole, emptyLimit, coldLimit}
 use Rattle.fields.specs.Clear.{clearMarks}
 use Rattle.pages.specs.Carve.{outWords}
 use Rattle.fields.proofs.Changes.{Changes}
+use Rattle.fields.proofs.Sound.{head-kept}
 use Rattle.model.specs.Release.{ofKind}
 use Rattle.arena.proofs.Frames.{give-kept}
 use Rattle.arena.specs.Calls.{given}
@@ -55,6 +56,7 @@ module _ (b b′ : List ℕ) (h : Changes isBit b b′) where
       let k = h .kept in
       let o = lt-ltb c classRows hc in
       rw (
+        head-kept b b′ (k (arena format) refl refl) n (k (arena frontier) refl refl),
         k (arena frontier) refl refl,
         give-kept n b b′ (λ f. k (arena f) refl refl) (λ f j o. k (hole f j) o refl) (sh .pages),
         k (page carved q) refl refl,

@@ -1,5 +1,5 @@
 -- The ways out of number 13's tests.
-use Rattle.facts.proofs.Prelude.{ℕ, _+_, _-_, _*_, _≤_, _<_, arith, mul-le-mul, add-one, Bool, true, false, _&&_, and-false, List}
+use Rattle.facts.proofs.Prelude.{ℕ, _+_, _-_, _*_, _≤_, _<_, arith, mul-le-mul, add-one, Bool, true, false, _&&_, and-false, List, not, not-true, not-false}
 use Rattle.facts.proofs.Prelude.{_≡_, sym, _∙_, leb, le-leb, lt-leb, lt-ltb, le-ltb, eq-eqb, ne-eqb, leb-true, and-left, and-right}
 use mir.Val.{Fits}
 use mir.Syntax.{w32}
@@ -7,7 +7,7 @@ use Rattle.classes.specs.declared.Shape.{Shape}
 use Rattle.rules.specs.declared.Limits.{Limits}
 use Rattle.rules.specs.Rules.{limits, Fit}
 use Rattle.fields.specs.Field.{arena, class, page, frontier, partial, emptyLimit, coldLimit, free, carved, listed, get}
-use Rattle.fields.specs.Ranges.{maxParked}
+use Rattle.fields.specs.Ranges.{maxParked, headValid}
 use Rattle.model.specs.declared.Destination.{Destination}
 use Rattle.model.specs.declared.Destination.the-variants.{ToEmpty, ToCold, ToArena}
 use Rattle.model.specs.Destination.{keepsEmpty, destinationOf}
@@ -160,10 +160,10 @@ module _ (n : ℕ) (b : List ℕ) (c : ℕ) (sh : Shape) (m q : ℕ) where
   unfolding destinationValid
   kept-cold r e h = rw (← e, h) (simp and-false)
 
-  module _ (f : ℕ) (e : f ≡ get b (arena frontier)) where
-    pub above-arena : n < f → false ≡ releaseValid n b c sh m q
+  module _ (f : Bool) (e : f ≡ headValid n b) where
+    pub wrong-head : not f ≡ true → false ≡ releaseValid n b c sh m q
     unfolding releaseValid
-    above-arena h = rw (← e, lt-leb f n h)
+    wrong-head h = rw (← e, not-true f h)
 
     module _ (p : Bool) (j : p ≡ pageValid b sh m q) where
       pub no-page : p ≡ false → false ≡ releaseValid n b c sh m q
@@ -175,9 +175,9 @@ module _ (n : ℕ) (b : List ℕ) (c : ℕ) (sh : Shape) (m q : ℕ) where
         unfolding releaseValid
         no-row l = rw (← k, l) (simp and-false)
 
-        pub destination-last : (t : Bool) → f ≤ n → r ≡ true → t ≡ destinationValid n b c sh m q → t ≡ releaseValid n b c sh m q
+        pub destination-last : (t : Bool) → not f ≡ false → r ≡ true → t ≡ destinationValid n b c sh m q → t ≡ releaseValid n b c sh m q
         unfolding releaseValid
-        destination-last t i l g = rw (← e, le-leb f n i, ← j, h, ← k, l) g
+        destination-last t i l g = rw (← e, not-false f i, ← j, h, ← k, l) g
 
 pub destination-pre : (b : List ℕ) (c : ℕ) (sh : Shape) (m q : ℕ) → ValidPre b c sh q → (p r : Bool) → p ≡ pageValid b sh m q → p ≡ true → r ≡ rowValid b c → r ≡ true → DestinationValidPre b c sh m q
 destination-pre b c sh m q a p r j h k l = record { run = a; page = sym j ∙ h; row = sym k ∙ l }

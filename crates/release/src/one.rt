@@ -38,7 +38,7 @@ fn stays_valid(meta: &[u32], n: u32, c: u32, shape: Shape, q: u32) -> bool
     requires { ⌜ ValidPre (now meta) c shape q ⌝ }
     ensures { λ r. ⌜ r ≡ staysValid n (now (meta .entry)) c shape q ⌝ }
 {
-    if fields::arena::frontier(meta) > n {
+    if !fields::fault::head_valid(meta, n) {
         return false;
     }
     if page_valid(meta, shape, 1, q) {

@@ -124,7 +124,7 @@ pub fn release_valid(meta: &[u32], n: u32, c: u32, shape: Shape, m: usize, q: u3
     requires { ⌜ ValidPre (now meta) c shape q ⌝ }
     ensures { λ r. ⌜ r ≡ releaseValid n (now (meta .entry)) c shape m q ⌝ }
 {
-    if fields::arena::frontier(meta) > n {
+    if !fields::fault::head_valid(meta, n) {
         return false;
     }
     if page_valid(meta, shape, m, q) {

@@ -2,12 +2,12 @@
 --     rows-cover    a list that is not refused, and not empty
 --     rules-fit     the limits of a list that is not refused; `plain-rules`, those of none are document 01's
 use Rattle.facts.proofs.Prelude.{ℕ, zero, suc, _+_, _-_, _*_, _%_, _≤_, _<_, arith, true, false, _&&_, false≢true, List, [], _∷_, _≡_, refl, sym, _∙_, ap, subst, eqb, leb}
-use Rattle.facts.proofs.Prelude.{ltb, length, getD, drop, le-leb, leb-true, leb-false, ltb-true, ltb-false, isNil, every, All, below, by-cases, and-left, and-right, every-at}
+use Rattle.facts.proofs.Prelude.{ltb, length, getD, drop, le-leb, lt-ltb, leb-true, leb-false, ltb-true, ltb-false, isNil, every, All, below, by-cases, and-left, and-right, every-at}
 use Rattle.words.specs.Host.{digit}
 use Rattle.words.specs.Limits.{maxParked}
-use Rattle.classes.specs.Shape.{classCount}
+use Rattle.classes.specs.Shape.{classCount, numberOf}
 use Rattle.rules.specs.declared.Limits.{Limits}
-use Rattle.rules.specs.Rules.{plainRules, RuleRow, rowsIn, spans, rowsOn, rowsFor, limitsFit, goodRow, badRows, twoRows, noRow, rowsFault, rowLimits, limitsIn, rulesOf, RowOf, ItsRow, RowsCover, Fit}
+use Rattle.rules.specs.Rules.{plainLimits, plainRules, RuleRow, rowsIn, spans, rowsOn, rowsFor, limitsFit, goodRow, badRows, twoRows, noRow, rowsFault, rowLimits, limitsIn, rulesOf, RowOf, ItsRow, RowsCover, Fit}
 use Rattle.rules.specs.way.Rows.{rowAt}
 use Rattle.rules.proofs.RowSteps.{rows-next, rows-past}
 
@@ -131,12 +131,11 @@ rows-cover ws e n =
     few : (c : ℕ) → c < classCount → rowsOn (rowsIn ws) c ≤ 1
     few c h = leb-true (rowsFor ws c) 1 (every-at (λ d. leb (rowsFor ws d) 1) classCount c (passed ws e .few) h)
 
-    its : (c : ℕ) → c < classCount → (i : ℕ) → RowOf ws c i → limitsIn (rowsIn ws) c ≡ rowLimits (rowAt ws (i * 4))
-    its c h i r = row-at ws (λ x. spans x c ≡ true → limitsIn (rowsIn ws) c ≡ rowLimits x) (its-row (rowsIn ws) c (few c h)) i (r .there) (spans-at ws c i r)
+    its : (c : ℕ) → c < classCount → (i : ℕ) → RowOf ws c i → rulesOf ws c ≡ rowLimits (rowAt ws (i * 4))
+    its c h i r = rw (lt-ltb c classCount h) (row-at ws (λ x. spans x c ≡ true → limitsIn (rowsIn ws) c ≡ rowLimits x) (its-row (rowsIn ws) c (few c h)) i (r .there) (spans-at ws c i r))
 
 -- ---- limits fit
-plain-fit : (c : ℕ) → Fit (plainRules c)
-unfolding plainRules
+plain-fit : (c : ℕ) → Fit (plainLimits c)
 plain-fit c = by-cases (ltb c 64) (λ e. rw e (record { empty = omega arith; cold = omega arith })) (λ e. rw e (record { empty = omega arith; cold = omega arith }))
 
 rows-fit : (rs : List RuleRow) (c : ℕ) → every goodRow rs ≡ true → Fit (limitsIn rs c)
@@ -153,8 +152,8 @@ rows-fit (r ∷ rs) c g =
 
 pub rules-fit : (ws : List ℕ) → rowsFault ws ≡ 0 → (c : ℕ) → Fit (rulesOf ws c)
 unfolding rulesOf
-rules-fit ws e c = rows-fit (rowsIn ws) c (passed ws e .good)
+rules-fit ws e c = rows-fit (rowsIn ws) (numberOf c) (passed ws e .good)
 
 pub plain-rules : rulesOf [] ≡ plainRules
-unfolding rulesOf rowsIn
+unfolding rulesOf rowsIn plainRules
 plain-rules = refl

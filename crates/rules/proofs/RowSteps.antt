@@ -1,11 +1,11 @@
 -- The steps of the functions on rule rows: a row's tests, the loops over rows and over classes, the ways out.
-use Rattle.facts.proofs.Prelude.{ℕ, suc, _+_, _-_, _%_, _≤_, _<_, arith, Bool, true, false, cond, not, _&&_, List, [], _∷_, _≡_, refl, sym, _∙_, leb, ltb, length, getD}
+use Rattle.facts.proofs.Prelude.{ℕ, suc, _+_, _-_, _%_, _≤_, _<_, arith, Bool, true, false, cond, not, _&&_, List, [], _∷_, _≡_, refl, sym, _∙_, ap, leb, ltb, length, getD}
 use Rattle.facts.proofs.Prelude.{drop, length-drop, drop-cons, le-leb, lt-leb, lt-ltb, le-ltb, eq-eqb, ne-eqb, not-true, not-false, isNil, every, below, below-last}
 use Rattle.words.specs.Host.{digit}
 use Rattle.words.specs.Limits.{maxParked}
-use Rattle.classes.specs.Shape.{classCount}
+use Rattle.classes.specs.Shape.{classCount, numberOf}
 use Rattle.rules.specs.declared.Limits.{Limits}
-use Rattle.rules.specs.Rules.{limits, plainRules, rowsIn, spans, rowsOn, rowsFor, goodRow, badRows, twoRows, noRow, rowsFault, rowLimits, limitsIn, rulesOf}
+use Rattle.rules.specs.Rules.{limits, plainLimits, rowsIn, spans, rowsOn, rowsFor, goodRow, badRows, twoRows, noRow, rowsFault, rowLimits, limitsIn, rulesOf}
 use Rattle.rules.specs.way.Rows.{rowAt, HasRow}
 
 -- ---- one row
@@ -30,12 +30,10 @@ module _ (ws : List ℕ) (i : ℕ) where
       pub good-turned : getD ws (i + 1) 0 < getD ws i 0 → false ≡ goodRow (rowAt ws i)
       good-turned h = rw (le-leb (getD ws (i + 2) 0) maxParked e, le-leb (getD ws (i + 3) 0) maxParked u, lt-leb (getD ws i 0) (getD ws (i + 1) 0) h)
 
-pub plain-small : (c : ℕ) → c < 64 → limits 4 256 ≡ plainRules c
-unfolding plainRules
+pub plain-small : (c : ℕ) → c < 64 → limits 4 256 ≡ plainLimits c
 plain-small c h = rw (lt-ltb c 64 h)
 
-pub plain-medium : (c : ℕ) → 64 ≤ c → limits 32 256 ≡ plainRules c
-unfolding plainRules
+pub plain-medium : (c : ℕ) → 64 ≤ c → limits 32 256 ≡ plainLimits c
 plain-medium c h = rw (le-ltb c 64 h)
 
 -- ---- the rows from word i on
@@ -220,21 +218,24 @@ module _ (ws : List ℕ) where
 module _ (ws : List ℕ) (c : ℕ) where
   pub record LimitsInv (i : ℕ) : Type 0 where
     pub within : i ≤ length ws
-    pub rest : limitsIn (rowsIn (drop i ws)) c ≡ rulesOf ws c
+    pub rest : limitsIn (rowsIn (drop i ws)) c ≡ limitsIn (rowsIn ws) c
 
   pub limits-start : LimitsInv 0
-  unfolding rulesOf
   limits-start = record { within = omega arith; rest = refl }
 
   module _ (i : ℕ) (v : LimitsInv i) (l : 4 ≤ length ws - i) (t : Bool) (e : t ≡ spans (rowAt ws i) c) where
-    limits-next : rulesOf ws c ≡ cond t (rowLimits (rowAt ws i)) (limitsIn (rowsIn (drop (i + 4) ws)) c)
+    limits-next : limitsIn (rowsIn ws) c ≡ cond t (rowLimits (rowAt ws i)) (limitsIn (rowsIn (drop (i + 4) ws)) c)
     limits-next = sym (v .rest) ∙ rw (rows-next ws i (omega (arith, v .within)), e)
 
-    pub limits-found : (r : Limits) → t ≡ true → r ≡ rowLimits (rowAt ws i) → r ≡ rulesOf ws c
+    pub limits-found : (r : Limits) → t ≡ true → r ≡ rowLimits (rowAt ws i) → r ≡ limitsIn (rowsIn ws) c
     limits-found r h k = k ∙ sym (limits-next ∙ rw h)
 
     pub limits-again : t ≡ false → LimitsInv (i + 4)
     limits-again h = record { within = omega (arith, v .within); rest = sym (limits-next ∙ rw h) }
 
-  pub limits-plain : (i : ℕ) (r : Limits) → LimitsInv i → length ws - i < 4 → r ≡ plainRules c → r ≡ rulesOf ws c
+  pub limits-plain : (i : ℕ) (r : Limits) → LimitsInv i → length ws - i < 4 → r ≡ plainLimits c → r ≡ limitsIn (rowsIn ws) c
   limits-plain i r v l e = e ∙ (rw (rows-past ws i l) at (v .rest))
+
+pub limits-numbered : (ws : List ℕ) (c k : ℕ) (r : Limits) → k ≡ numberOf c → r ≡ limitsIn (rowsIn ws) k → r ≡ rulesOf ws c
+unfolding rulesOf
+limits-numbered ws c k r e f = f ∙ ap (λ j. limitsIn (rowsIn ws) j) e

@@ -1,10 +1,10 @@
 -- Parking rules (document 02, A.9): how many runs a class parks, and the rule rows that an opening is given.
---     Rules, plainRules    the limits of each class; those of document 01
+--     Rules, plainRules    the limits of each class, by its id; those of document 01
 --     rowsIn               the rows of a list
 --     rowsFault            number 19, 18 or 17 of a list, in that order, or 0
 --     rulesOf              the limits that a list gives each class
 --     RowOf, RowsCover     row i of the list is one of class c; each class has just one, and its limits
--- A run is a page of a small class, a span of a medium one. Classes are numbered 0 to 75.
+-- A run is a page of a small class, a span of a medium one. Classes are numbered 0 to 75; ids from 76 on have the limits of id - 76.
 use Prim.Native.Nat.{ℕ, _+_, _*_, _%_, _≤_, _<_}
 use mathlib.Core.Bool.{Bool, cond, not, _&&_}
 use mathlib.Core.List.{List, [], _∷_}
@@ -14,7 +14,7 @@ use lib.ListN.{length, getD}
 use Rattle.facts.specs.Lists.{isNil, every, total, below}
 use Rattle.words.specs.Host.{digit}
 use Rattle.words.specs.Limits.{maxParked}
-use Rattle.classes.specs.Shape.{classCount}
+use Rattle.classes.specs.Shape.{classCount, numberOf}
 use Rattle.rules.specs.declared.Limits.{Limits}
 
 abbrev pub Rules : Type 0
@@ -24,8 +24,11 @@ abbrev pub limits : ℕ → ℕ → Limits
 limits e k = record { empty = e; cold = k }
 
 -- "With no rows, 01's limits hold": 4 empty pages, 32 empty spans, 256 cold ones
+abbrev pub plainLimits : ℕ → Limits
+plainLimits c = cond (ltb c 64) (limits 4 256) (limits 32 256)
+
 unfoldable pub plainRules : Rules
-plainRules c = cond (ltb c 64) (limits 4 256) (limits 32 256)
+plainRules c = plainLimits (numberOf c)
 
 -- "A rule row is four 32-bit numbers: first class, last class .., empty limit 0 to 256 and cold limit 0 to 256."
 pub record RuleRow : Type 0 where
@@ -77,12 +80,12 @@ rowsFault ws = cond (badRows ws) 19 (cond (twoRows ws) 18 (cond (noRow ws) 17 0)
 abbrev pub rowLimits : RuleRow → Limits
 rowLimits r = limits (r .empty) (r .cold)
 
-abbrev pub limitsIn : List RuleRow → Rules
-limitsIn [] c = plainRules c
+abbrev pub limitsIn : List RuleRow → ℕ → Limits
+limitsIn [] c = plainLimits c
 limitsIn (r ∷ rs) c = cond (spans r c) (rowLimits r) (limitsIn rs c)
 
 unfoldable pub rulesOf : List ℕ → Rules
-rulesOf ws c = limitsIn (rowsIn ws) c
+rulesOf ws c = limitsIn (rowsIn ws) (numberOf c)
 
 -- Of the list's words, four to a row: "first class, last class .., empty limit .. and cold limit"
 pub record RowOf (ws : List ℕ) (c i : ℕ) : Type 0 where

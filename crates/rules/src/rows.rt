@@ -2,10 +2,11 @@
 ghost use mathlib.Core.Path.{_≡_};
 ghost use Rattle.facts.specs.Lists.{every};
 ghost use Rattle.rules.specs.way.Rows.{HasRow, rowAt};
-ghost use Rattle.rules.specs.Rules.{plainRules, spans, goodRow, rowsIn, rowsFor, badRows, twoRows, noRow, rowsFault, rowLimits, rulesOf};
+ghost use Rattle.rules.specs.Rules.{plainLimits, spans, goodRow, rowsIn, rowsFor, badRows, twoRows, noRow, rowsFault, rowLimits, limitsIn, rulesOf};
 use super::Limits;
 use classes::CLASS_COUNT;
 use classes::NUM_CLASSES;
+use classes::number_of;
 use words::limits::MAX_PARKED;
 
 // The row at i is one of class c.
@@ -120,7 +121,7 @@ pub fn rows_fault(rows: &[u32]) -> u32
 }
 
 fn plain_limits(c: u32) -> Limits
-    ensures { λ r. ⌜ r ≡ plainRules c ⌝ }
+    ensures { λ r. ⌜ r ≡ plainLimits c ⌝ }
 {
     let empty = if c < NUM_CLASSES { 4 } else { 32 };
     Limits { empty, cold: 256 }
@@ -136,9 +137,9 @@ fn row_limits(rows: &[u32], i: usize) -> Limits
     }
 }
 
-// The limits of class c: its row's, and document 01's where it has none.
-pub fn limits_of(rows: &[u32], c: u32) -> Limits
-    ensures { λ r. ⌜ r ≡ rulesOf (now (rows .entry)) c ⌝ }
+// The limits of the class with number c: its row's, and document 01's where it has none.
+fn named_limits(rows: &[u32], c: u32) -> Limits
+    ensures { λ r. ⌜ r ≡ limitsIn (rowsIn (now (rows .entry))) c ⌝ }
 {
     let mut i = 0;
     while rows.len() - i >= 4 {
@@ -148,4 +149,11 @@ pub fn limits_of(rows: &[u32], c: u32) -> Limits
         i += 4;
     }
     plain_limits(c)
+}
+
+// The limits of the class with an id.
+pub fn limits_of(rows: &[u32], id: u32) -> Limits
+    ensures { λ r. ⌜ r ≡ rulesOf (now (rows .entry)) id ⌝ }
+{
+    named_limits(rows, number_of(id))
 }

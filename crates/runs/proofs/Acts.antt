@@ -34,6 +34,8 @@ use Rattle.runs.proofs.Joins.{holds, place-stands, no-place}
 use Rattle.runs.proofs.EndsValid.{every-at, every-weaker, take-valid}
 use Rattle.arena.proofs.Frames.{loaded-length, isOwner, holes-change, holes-there, arena-changes, own-changes, own-twice}
 use Rattle.fields.proofs.Changes.{changes-none}
+use Rattle.fields.specs.Ranges.{headValid}
+use Rattle.fields.proofs.Sound.{head-frontier}
 
 -- ---- the record that an arena is stored by
 abbrev pub summary : Arena → Record
@@ -340,11 +342,11 @@ pub valid-record : (n : ℕ) (b : List ℕ) → recordValid n b ≡ true → Val
 unfolding recordValid
 valid-record n b e =
     let e₁ = and-right (leb (get b (arena state)) 2) _ e in
-    let e₂ = and-right (leb (get b (arena frontier)) n) _ e₁ in
+    let e₂ = and-right (headValid n b) _ e₁ in
     let e₃ = and-right (leb (get b (arena holes)) holeSlots) _ e₂ in
     record {
       state = leb-true _ 2 (and-left _ _ e);
-      frontier = leb-true _ n (and-left _ _ e₁);
+      frontier = head-frontier n b (and-left _ _ e₁);
       holes = leb-true _ holeSlots (and-left _ _ e₂);
       holePages = leb-true _ holePagesMax (and-left _ _ e₃);
       held = leb-true _ n (and-right (leb (get b (arena holePages)) holePagesMax) _ e₃);

@@ -1,10 +1,11 @@
 -- The ways out of the functions, over plain values.
-use Rattle.facts.proofs.Prelude.{ℕ, zero, suc, _+_, _-_, _≤_, _<_, arith, add-one, Bool, false, List, Option, _≡_, refl, sym}
+use Rattle.facts.proofs.Prelude.{ℕ, zero, suc, _+_, _-_, _≤_, _<_, arith, add-one, Bool, true, false, List, Option, _≡_, refl, sym}
 use Rattle.facts.proofs.Prelude.{ap, _∙_, subst, leb, length, lt-ltb, le-ltb, le-leb, lt-leb, eq-eqb, ne-eqb, every, and-no}
 use Rattle.words.specs.Limits.{holeSlots, holePagesMax}
 use Rattle.fields.specs.Field as Field
 use Rattle.fields.specs.Field.{arena, page, owner, state, frontier, holes, holePages, held, pages, get, put}
 use Rattle.fields.proofs.Laws.{length-put}
+use Rattle.fields.specs.Ranges.{headValid}
 use Rattle.runs.specs.declared.Arena.{Arena}
 use Rattle.runs.specs.declared.holes.Neighbours.{Neighbours}
 use Rattle.runs.specs.declared.record.Gain.{Gain}
@@ -30,9 +31,9 @@ module _ (n : ℕ) (b : List ℕ) where
   unfolding recordValid
   no-state s e l = rw (← e, lt-leb s 2 l)
 
-  pub no-frontier : (f : ℕ) → f ≡ get b (arena frontier) → n < f → false ≡ recordValid n b
+  pub no-head : (t : Bool) → t ≡ headValid n b → t ≡ false → false ≡ recordValid n b
   unfolding recordValid
-  no-frontier f e l = simp (← e, lt-leb f n l, and-no)
+  no-head t e f = let z : headValid n b ≡ false = sym e ∙ f in simp (z, and-no)
 
   pub no-holes : (k : ℕ) → k ≡ get b (arena holes) → holeSlots < k → false ≡ recordValid n b
   unfolding recordValid
@@ -42,11 +43,12 @@ module _ (n : ℕ) (b : List ℕ) where
   unfolding recordValid
   no-pages t e l = simp (← e, lt-leb t holePagesMax l, and-no)
 
-  pub all-valid : (s f k t d : ℕ) → s ≡ get b (arena state) → s ≤ 2 → f ≡ get b (arena frontier) → f ≤ n → k ≡ get b (arena holes) → k ≤ holeSlots
-      → t ≡ get b (arena holePages) → t ≤ holePagesMax → d ≡ get b (arena held) → leb d n ≡ recordValid n b
+  pub all-valid : (s k t d : ℕ) (h : Bool) → s ≡ get b (arena state) → s ≤ 2 → k ≡ get b (arena holes) → k ≤ holeSlots
+      → t ≡ get b (arena holePages) → t ≤ holePagesMax → h ≡ headValid n b → h ≡ true → d ≡ get b (arena held) → leb d n ≡ recordValid n b
   unfolding recordValid
-  all-valid s f k t d e₁ l₁ e₂ l₂ e₃ l₃ e₄ l₄ e₅ =
-      rw (← e₁, ← e₂, ← e₃, ← e₄, ← e₅, le-leb s 2 l₁, le-leb f n l₂, le-leb k holeSlots l₃, le-leb t holePagesMax l₄)
+  all-valid s k t d h e₁ l₁ e₂ l₂ e₃ l₃ e₄ l₄ e₅ =
+      let z : headValid n b ≡ true = sym e₄ ∙ l₄ in
+      rw (← e₁, ← e₂, ← e₃, ← e₅, le-leb s 2 l₁, z, le-leb k holeSlots l₂, le-leb t holePagesMax l₃)
 
 -- ---- owners: what is left to write comes to what was asked
 pub record Owning (b₀ : List ℕ) (first pages w : ℕ) (b : List ℕ) (p left : ℕ) : Type 0 where

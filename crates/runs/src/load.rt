@@ -34,16 +34,16 @@ pub fn record_valid(meta: &[u32], size: u32) -> bool
     if 2 < fields::arena::state(meta) {
         return false;
     }
-    if size < fields::arena::frontier(meta) {
-        return false;
-    }
     if HOLE_SLOTS < fields::arena::holes(meta) {
         return false;
     }
     if HOLE_PAGES_MAX < fields::arena::hole_pages(meta) {
         return false;
     }
-    fields::arena::held(meta) <= size
+    if fields::fault::head_valid(meta, size) {
+        return fields::arena::held(meta) <= size;
+    }
+    false
 }
 
 // Is every hole in a give's range.

@@ -2,7 +2,7 @@
 use Rattle.facts.proofs.Prelude.{ℕ, _-_, arith, Bool, true, false, not, List, _≡_, refl, sym, ap, _∙_, length, getD, length-take, eq-eqb, ne-eqb, not-true, not-false}
 use lib.ListN as ListN
 use Rattle.words.specs.Word.{blockWord}
-use Rattle.classes.specs.Shape.{shapeOf}
+use Rattle.classes.specs.Shape.{shapeOf, poolId}
 use Rattle.classes.proofs.Shapes.{shape-sound}
 use Rattle.calls.specs.Take.{takeCall}
 use Rattle.take.specs.way.TakePlan as Plan
@@ -36,40 +36,44 @@ module _ (b : List ℕ) (c m : ℕ) (l : List ℕ) where
         rw (ne-eqb m 0 some, k) (record { code = refl; block = λ old. g; book = f ∙ ap (λ z. putCount z c (m - 1)) e })
 
 -- ---- a take
-pub take-asks : (n : ℕ) (b : List ℕ) (c h : ℕ) → PoolPre n b c → Plan.ListPre true n b c h
-take-asks n b c h a = whole-pre n b c h (record { known = omega (arith, a .known); few = a .few; long = a .long })
+pub take-asks : (n : ℕ) (b : List ℕ) (c d h : ℕ) → PoolPre n b c → d ≡ poolId c → Plan.ListPre true n b d h
+take-asks n b c d h a e = whole-pre n b d h (record { known = omega (arith, a .known); few = a .few; long = a .long })
 
-module _ (n : ℕ) (b : List ℕ) (c h : ℕ) (s : Take) (b₁ l : List ℕ) (t : Takes s b₁ l (takeCall n b c (shapeOf c) h blank)) where
-  pub refill-refused : (k old : ℕ) → s ≡ Refused k → BlockEnds (tookOn c (takeCall n b c (shapeOf c) h blank)) k b₁ old old
+-- d is the class's id, as the code has it
+module _ (n : ℕ) (b : List ℕ) (c d h : ℕ) (ed : d ≡ poolId c) (s : Take) (b₁ l : List ℕ) (t₀ : Takes s b₁ l (takeCall n b d (shapeOf d) h blank)) where
+  t : Takes s b₁ l (takeCall n b (poolId c) (shapeOf (poolId c)) h blank)
+  t = rw ed at t₀
+
+  pub refill-refused : (k old : ℕ) → s ≡ Refused k → BlockEnds (tookOn c (takeCall n b (poolId c) (shapeOf (poolId c)) h blank)) k b₁ old old
   unfolding tookOn
   refill-refused k old e =
-      let x = takeCall n b c (shapeOf c) h blank in
+      let x = takeCall n b (poolId c) (shapeOf (poolId c)) h blank in
       let z = told-refused (x .code) (x .count) (x .virgin) k (sym (t .answer) ∙ e) in
       rw (ne-eqb (x .code) 0 z) (record { code = told-number (x .code) (x .count) (x .virgin) k (sym (t .answer) ∙ e); book = t .book; block = refl })
 
   module _ (m : ℕ) (v : Bool) (e : s ≡ Took m v) where
-    counted : m ≡ takeCall n b c (shapeOf c) h blank .count
-    counted = let x = takeCall n b c (shapeOf c) h blank in told-count (x .code) (x .count) (x .virgin) m v (sym (t .answer) ∙ e)
+    counted : m ≡ takeCall n b (poolId c) (shapeOf (poolId c)) h blank .count
+    counted = let x = takeCall n b (poolId c) (shapeOf (poolId c)) h blank in told-count (x .code) (x .count) (x .virgin) m v (sym (t .answer) ∙ e)
 
     pub took-pre : PoolPre n b c → ListPre n l m
     took-pre a =
-        let x = takeCall n b c (shapeOf c) h blank in
+        let x = takeCall n b (poolId c) (shapeOf (poolId c)) h blank in
         rw (counted, t .list) (record {
-          few = call-spares n b c h blank .few;
-          there = call-spares n b c h blank .within;
-          low = take-in-arena n (a .few) c (shapeOf c) (shape-sound c) b h blank (omega (arith, a .known)) (a .long) .low;
+          few = call-spares n b (poolId c) h blank .few;
+          there = call-spares n b (poolId c) h blank .within;
+          low = take-in-arena n (a .few) (poolId c) (shapeOf (poolId c)) (shape-sound (poolId c)) b h blank (omega (arith, a .known)) (a .long) .low;
         })
 
-    pub refill-took : (r : ℕ) (b₂ : List ℕ) (old : ℕ) → Brings r b₂ (bringOn b₁ c m l) → BlockEnds (tookOn c (takeCall n b c (shapeOf c) h blank)) 0 b₂ old r
+    pub refill-took : (r : ℕ) (b₂ : List ℕ) (old : ℕ) → Brings r b₂ (bringOn b₁ c m l) → BlockEnds (tookOn c (takeCall n b (poolId c) (shapeOf (poolId c)) h blank)) 0 b₂ old r
     unfolding tookOn
     refill-took r b₂ old g =
-        let x = takeCall n b c (shapeOf c) h blank in
+        let x = takeCall n b (poolId c) (shapeOf (poolId c)) h blank in
         let g′ : Brings r b₂ (bringOn (x .book) c (x .count) (x .list)) = rw (← counted, ← (t .book), ← (t .list)) g in
         rw (told-code (x .code) (x .count) (x .virgin) m v (sym (t .answer) ∙ e)) (record { code = sym (g′ .code); book = g′ .book; block = g′ .block old })
 
 -- ---- the whole
 module _ (n : ℕ) (b : List ℕ) (c h k : ℕ) (e : k ≡ countIn b c) where
-  pub alloc-took : k ≡ 0 → (r : ℕ) (b′ : List ℕ) (old new : ℕ) → BlockEnds (tookOn c (takeCall n b c (shapeOf c) h blank)) r b′ old new → BlockEnds (allocOn n b c h) r b′ old new
+  pub alloc-took : k ≡ 0 → (r : ℕ) (b′ : List ℕ) (old new : ℕ) → BlockEnds (tookOn c (takeCall n b (poolId c) (shapeOf (poolId c)) h blank)) r b′ old new → BlockEnds (allocOn n b c h) r b′ old new
   unfolding allocOn
   alloc-took z r b′ old new t = rw (eq-eqb (countIn b c) 0 (sym e ∙ z)) t
 
@@ -81,7 +85,7 @@ module _ (n : ℕ) (b : List ℕ) (c h k : ℕ) (e : k ≡ countIn b c) where
     unfolding allocOn
     alloc-invalid old u = rw (ne-eqb (countIn b c) 0 there, ← ef, not-true f u) (record { code = refl; book = refl; block = refl })
 
-    pub alloc-popped : (g w old : ℕ) (b′ : List ℕ) → not f ≡ false → g ≡ entryIn b c (k - 1) → w ≡ blockWord (shapeOf c .kind) g → b′ ≡ putCount b c (k - 1) → BlockEnds (allocOn n b c h) 0 b′ old w
+    pub alloc-popped : (g w old : ℕ) (b′ : List ℕ) → not f ≡ false → g ≡ entryIn b c (k - 1) → w ≡ blockWord (shapeOf (poolId c) .kind) g → b′ ≡ putCount b c (k - 1) → BlockEnds (allocOn n b c h) 0 b′ old w
     unfolding allocOn
     alloc-popped g w old b′ u eg ew q =
-        rw (ne-eqb (countIn b c) 0 there, ← ef, not-false f u, ← e) (record { code = refl; book = q; block = ew ∙ ap (blockWord (shapeOf c .kind)) eg })
+        rw (ne-eqb (countIn b c) 0 there, ← ef, not-false f u, ← e) (record { code = refl; book = q; block = ew ∙ ap (blockWord (shapeOf (poolId c) .kind)) eg })

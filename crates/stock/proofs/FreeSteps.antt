@@ -1,8 +1,9 @@
 -- The ways out of a free.
 use Rattle.facts.proofs.Prelude.{ℕ, _+_, _*_, _%_, _^_, _≤_, _<_, arith, Bool, true, false, cond, not, and-true, true≢false, List, [], _∷_, _≡_, refl, sym}
-use Rattle.facts.proofs.Prelude.{ap, _∙_, eqb, ltb, leb, le-ltb, le-leb, lt-leb, eq-eqb, eqb-true, leb-false, not-true, by-cases, and-no, and-left, and-right}
+use Rattle.facts.proofs.Prelude.{ap, _∙_, eqb, ltb, leb, le-ltb, le-leb, lt-leb, eq-eqb, eqb-true, leb-false, not-true, not-false, by-cases, and-no, and-left, and-right}
 use Rattle.words.specs.Word.{kindOf, granuleOf, blockWord}
-use Rattle.classes.specs.Shape.{shapeOf}
+use Rattle.classes.specs.Shape.{shapeOf, poolId}
+use Rattle.fields.specs.Ranges.{formatValid}
 use Rattle.model.specs.Release.{ofKind}
 use Rattle.calls.specs.Out.{outAt, outFault, unmarked, repeats}
 use Rattle.calls.specs.Release.{releasedNone, releaseBlocks}
@@ -23,7 +24,7 @@ pub far-away : (x : ℕ) → x < 2 ^ 62 → 10 ≡ farFault x
 far-away x h = rw (lt-leb (2 ^ 62) x h)
 
 -- x is how far the word lies behind the class's first
-module _ (c w x : ℕ) (ex : (x + blockWord (shapeOf c .kind) 0) % 2 ^ 64 ≡ w) (fit : x < 2 ^ 64) where
+module _ (c w x : ℕ) (ex : (x + blockWord (shapeOf (poolId c) .kind) 0) % 2 ^ 64 ≡ w) (fit : x < 2 ^ 64) where
   module _ (n : ℕ) (b : List ℕ) (h : ℕ) where
     pub free-far : (r : ℕ) → 4096 * n ≤ x → r ≡ farFault x → FreeEnds (freeOn n b c h w) r b
     unfolding freeOn
@@ -45,7 +46,7 @@ module _ (n : ℕ) (b : List ℕ) (c g w : ℕ) (a : NearPre n b c g w) (s : Boo
   unfolding freeOn ofKind
   free-stocked h z =
       let st : stocked b c (granuleOf w) ≡ true = rw (← (a .granule)) (sym es ∙ z) in
-      rw (eq-eqb (kindOf w) (shapeOf c .kind) (a .kind), st, and-no (outAt n b c (shapeOf c) w)) (record { code = refl; book = refl })
+      rw (eq-eqb (kindOf w) (shapeOf (poolId c) .kind) (a .kind), st, and-no (outAt n b (poolId c) (shapeOf (poolId c)) w)) (record { code = refl; book = refl })
 
   pub free-pre : s ≡ false → FreePre n b c g w
   free-pre z = record { known = a .known; few = a .few; long = a .long; low = a .low; granule = a .granule; kind = a .kind; away = sym es ∙ z }
@@ -58,16 +59,16 @@ module _ (n : ℕ) (b : List ℕ) (c g w : ℕ) (a : FreePre n b c g w) where
   pub word-low : granuleOf w < 4096 * n
   word-low = rw (← (a .granule)) (a .low)
 
-  right-kind : ofKind (shapeOf c .kind) w ≡ true
+  right-kind : ofKind (shapeOf (poolId c) .kind) w ≡ true
   unfolding ofKind
-  right-kind = eq-eqb (kindOf w) (shapeOf c .kind) (a .kind)
+  right-kind = eq-eqb (kindOf w) (shapeOf (poolId c) .kind) (a .kind)
 
   not-stocked : stocked b c (granuleOf w) ≡ false
   not-stocked = rw (← (a .granule)) (a .away)
 
-  free-is : (h : ℕ) → freeOn n b c h w ≡ cond (not (outAt n b c (shapeOf c) w)) (poolReply (refused 10) b) (freedOn n b c h w)
+  free-is : (h : ℕ) → freeOn n b c h w ≡ cond (not (outAt n b (poolId c) (shapeOf (poolId c)) w)) (poolReply (refused 10) b) (freedOn n b c h w)
   unfolding freeOn
-  free-is h = rw (right-kind, not-stocked, and-true (outAt n b c (shapeOf c) w))
+  free-is h = rw (right-kind, not-stocked, and-true (outAt n b (poolId c) (shapeOf (poolId c)) w))
 
   -- the stock is full: the heap refuses a block that is not out, as the pool does
   module _ (f : Bool) (k : ℕ) (ek : k ≡ countIn b c) (ef : f ≡ isFull c k) (full : f ≡ true) (h : ℕ) where
@@ -77,21 +78,21 @@ module _ (n : ℕ) (b : List ℕ) (c g w : ℕ) (a : FreePre n b c g w) where
     no-room : ltb k (stockMost c) ≡ false
     no-room = not-true (ltb k (stockMost c)) (and-right (leb k 255) (not (ltb k (stockMost c))) (sym ef ∙ full))
 
-    full-is : freeOn n b c h w ≡ cond (not (outAt n b c (shapeOf c) w)) (poolReply (refused 10) b) (releasedOn freed (releaseBlocks n b c (shapeOf c) h (w ∷ []) .book) (releaseBlocks n b c (shapeOf c) h (w ∷ [])))
+    full-is : freeOn n b c h w ≡ cond (not (outAt n b (poolId c) (shapeOf (poolId c)) w)) (poolReply (refused 10) b) (releasedOn freed (releaseBlocks n b (poolId c) (shapeOf (poolId c)) h (w ∷ []) .book) (releaseBlocks n b (poolId c) (shapeOf (poolId c)) h (w ∷ [])))
     unfolding freedOn countValid
     full-is = free-is h ∙ rw (← ek, no-room, at-most)
 
-    not-out : outAt n b c (shapeOf c) w ≡ false → releaseBlocks n b c (shapeOf c) h (w ∷ []) ≡ releasedNone b 10
+    not-out : outAt n b (poolId c) (shapeOf (poolId c)) w ≡ false → releaseBlocks n b (poolId c) (shapeOf (poolId c)) h (w ∷ []) ≡ releasedNone b 10
     unfolding releaseBlocks outFault unmarked repeats
     not-out t = rw (right-kind, t)
 
-    free-given : (r : ℕ) (b′ : List ℕ) → ReleasedOne r b′ (releaseBlocks n b c (shapeOf c) h (w ∷ [])) → FreeEnds (freeOn n b c h w) r b′
+    free-given : (r : ℕ) (b′ : List ℕ) → ReleasedOne r b′ (releaseBlocks n b (poolId c) (shapeOf (poolId c)) h (w ∷ [])) → FreeEnds (freeOn n b c h w) r b′
     unfolding releasedOn
     free-given r b′ z =
-        by-cases (outAt n b c (shapeOf c) w)
+        by-cases (outAt n b (poolId c) (shapeOf (poolId c)) w)
         (λ t.
         rw (full-is, t)
-        (by-cases (eqb (releaseBlocks n b c (shapeOf c) h (w ∷ []) .code) 0)
+        (by-cases (eqb (releaseBlocks n b (poolId c) (shapeOf (poolId c)) h (w ∷ []) .code) 0)
         (λ u. rw u (record { code = z .code ∙ eqb-true _ 0 u; book = z .book }))
         (λ u. rw u (record { code = z .code; book = z .book }))))
         (λ t.
@@ -99,7 +100,7 @@ module _ (n : ℕ) (b : List ℕ) (c g w : ℕ) (a : FreePre n b c g w) where
         rw (full-is, t) (record { code = y .code; book = y .book }))
 
   -- it is not
-  module _ (k : ℕ) (ek : k ≡ countIn b c) (spare : isFull c k ≡ false) (o : Bool) (eo : o ≡ outAt n b c (shapeOf c) w) where
+  module _ (k : ℕ) (ek : k ≡ countIn b c) (spare : isFull c k ≡ false) (o : Bool) (eo : o ≡ outAt n b (poolId c) (shapeOf (poolId c)) w) where
     pub keep-absent : o ≡ false → Kept 10 b n b c w
     keep-absent z = record { ends = λ h. rw (free-is h, ← eo, z) (record { code = refl; book = refl }) }
 
@@ -116,15 +117,22 @@ module _ (n : ℕ) (b : List ℕ) (c g w : ℕ) (a : FreePre n b c g w) where
       pub keep-low : k ≤ 255 → k < 256
       keep-low l = omega arith
 
-      pub keep-pushed : (b′ : List ℕ) → k ≤ 255 → b′ ≡ pushed b c g → Kept 0 b′ n b c w
-      unfolding freedOn
-      keep-pushed b′ l q =
-          let fewer : ltb (countIn b c) (stockMost c) ≡ true = rw (← ek) (has-room l) in
-          record { ends = λ h. rw (free-is h, ← eo, z, fewer) (record { code = refl; book = q ∙ ap (pushed b c) (a .granule) }) }
+      module _ (l : k ≤ 255) (f : Bool) (ef : f ≡ formatValid b) where
+        fewer : ltb (countIn b c) (stockMost c) ≡ true
+        fewer = rw (← ek) (has-room l)
+
+        pub keep-unmade : not f ≡ true → Kept 13 b n b c w
+        unfolding freedOn
+        keep-unmade u = record { ends = λ h. rw (free-is h, ← eo, z, fewer, ← ef, not-true f u) (record { code = refl; book = refl }) }
+
+        pub keep-pushed : (b′ : List ℕ) → not f ≡ false → b′ ≡ pushed b c g → Kept 0 b′ n b c w
+        unfolding freedOn
+        keep-pushed b′ u q =
+            record { ends = λ h. rw (free-is h, ← eo, z, fewer, ← ef, not-false f u) (record { code = refl; book = q ∙ ap (pushed b c) (a .granule) }) }
 
 -- from before the look into the stock
 pub free-full : (n : ℕ) (b : List ℕ) (c g w : ℕ) → NearPre n b c g w → (s : Bool) → s ≡ stocked b c g → s ≡ false → (f : Bool) (k : ℕ) → k ≡ countIn b c → f ≡ isFull c k → f ≡ true
-    → (h r : ℕ) (b′ : List ℕ) → ReleasedOne r b′ (releaseBlocks n b c (shapeOf c) h (w ∷ [])) → FreeEnds (freeOn n b c h w) r b′
+    → (h r : ℕ) (b′ : List ℕ) → ReleasedOne r b′ (releaseBlocks n b (poolId c) (shapeOf (poolId c)) h (w ∷ [])) → FreeEnds (freeOn n b c h w) r b′
 free-full n b c g w a s es z f k ek ef full h r b′ t = free-given n b c g w (free-pre n b c g w a s es z) f k ek ef full h r b′ t
 
 pub free-kept : (n : ℕ) (b : List ℕ) (c h w r : ℕ) (b′ : List ℕ) → Kept r b′ n b c w → FreeEnds (freeOn n b c h w) r b′

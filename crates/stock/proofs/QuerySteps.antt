@@ -1,10 +1,11 @@
 -- The ways out of the look at a class's pool.
-use Rattle.facts.proofs.Prelude.{ℕ, _+_, _*_, _%_, _^_, _≤_, _<_, arith, Bool, true, false, _&&_, and-true, List, _≡_}
-use Rattle.facts.proofs.Prelude.{sym, leb, le-ltb, le-leb, lt-leb, eq-eqb, ne-eqb, leb-true, leb-false, by-cases, and-no}
+use Rattle.facts.proofs.Prelude.{ℕ, _+_, _*_, _%_, _^_, _≤_, _<_, arith, Bool, true, false, not, _&&_, and-true, List, _≡_}
+use Rattle.facts.proofs.Prelude.{sym, leb, le-ltb, le-leb, lt-leb, eq-eqb, ne-eqb, leb-true, leb-false, not-true, not-false, by-cases, and-no}
 use Rattle.words.specs.Word.{kindOf, granuleOf, blockWord}
 use Rattle.classes.specs.declared.Shape.{Shape}
-use Rattle.classes.specs.Shape.{shapeOf}
+use Rattle.classes.specs.Shape.{shapeOf, poolId}
 use Rattle.classes.proofs.Shapes.{shape-sound}
+use Rattle.fields.specs.Ranges.{formatValid}
 use Rattle.model.specs.Release.{ofKind}
 use Rattle.pages.specs.Stack.{pageAt}
 use Rattle.calls.specs.Out.{inRunOf, outAt}
@@ -16,11 +17,16 @@ use Rattle.stock.specs.way.Pre.{GranulePre, PoolPre}
 module _ (b : List ℕ) (c k : ℕ) (e : k ≡ countIn b c) where
   pub stock-invalid : 255 < k → 0 ≡ stockedIn b c
   unfolding stockedIn countValid
-  stock-invalid h = rw (← e, lt-leb k 255 h)
+  stock-invalid h = rw (← e, lt-leb k 255 h, and-no (formatValid b))
 
-  pub stock-counted : k ≤ 255 → k ≡ stockedIn b c
-  unfolding stockedIn countValid
-  stock-counted h = rw (← e, le-leb k 255 h)
+  module _ (h : k ≤ 255) (f : Bool) (ef : f ≡ formatValid b) where
+    pub stock-counted : f ≡ true → k ≡ stockedIn b c
+    unfolding stockedIn countValid
+    stock-counted t = rw (← ef, t, ← e, le-leb k 255 h)
+
+    pub stock-unmade : f ≡ false → 0 ≡ stockedIn b c
+    unfolding stockedIn
+    stock-unmade t = rw (← ef, t)
 
 -- ---- any word. One beyond the arena is out nowhere
 out-low : (n : ℕ) (b : List ℕ) (c : ℕ) (sh : Shape) (w : ℕ) → 4096 * n ≤ granuleOf w → outAt n b c sh w ≡ false
@@ -28,33 +34,36 @@ unfolding outAt inRunOf
 out-low n b c sh w h = rw (le-ltb (pageAt w) n (omega arith))
 
 -- x is how far the word lies behind the class's first
-module _ (c w x : ℕ) (ex : (x + blockWord (shapeOf c .kind) 0) % 2 ^ 64 ≡ w) (fit : x < 2 ^ 64) where
-  pub behind-kind : x < 2 ^ 62 → kindOf w ≡ shapeOf c .kind
-  behind-kind h = omega (arith, shape-sound c .known)
+module _ (c w x : ℕ) (ex : (x + blockWord (shapeOf (poolId c) .kind) 0) % 2 ^ 64 ≡ w) (fit : x < 2 ^ 64) where
+  pub behind-kind : x < 2 ^ 62 → kindOf w ≡ shapeOf (poolId c) .kind
+  behind-kind h = omega (arith, shape-sound (poolId c) .known)
 
   pub behind-granule : x < 2 ^ 62 → x ≡ granuleOf w
-  behind-granule h = omega (arith, shape-sound c .known)
+  behind-granule h = omega (arith, shape-sound (poolId c) .known)
 
-  other-kind : 2 ^ 62 ≤ x → kindOf w ≡ shapeOf c .kind → ⊥
-  other-kind h e = omega (arith, shape-sound c .known)
+  other-kind : 2 ^ 62 ≤ x → kindOf w ≡ shapeOf (poolId c) .kind → ⊥
+  other-kind h e = omega (arith, shape-sound (poolId c) .known)
 
-  pub far-kind : leb (2 ^ 62) x ≡ true → ofKind (shapeOf c .kind) w ≡ false
+  pub far-kind : leb (2 ^ 62) x ≡ true → ofKind (shapeOf (poolId c) .kind) w ≡ false
   unfolding ofKind
-  far-kind t = ne-eqb (kindOf w) (shapeOf c .kind) (other-kind (leb-true (2 ^ 62) x t))
+  far-kind t = ne-eqb (kindOf w) (shapeOf (poolId c) .kind) (other-kind (leb-true (2 ^ 62) x t))
 
-  pub near-kind : x < 2 ^ 62 → ofKind (shapeOf c .kind) w ≡ true
+  pub near-kind : x < 2 ^ 62 → ofKind (shapeOf (poolId c) .kind) w ≡ true
   unfolding ofKind
-  near-kind h = eq-eqb (kindOf w) (shapeOf c .kind) (behind-kind h)
+  near-kind h = eq-eqb (kindOf w) (shapeOf (poolId c) .kind) (behind-kind h)
 
   module _ (n : ℕ) (b : List ℕ) where
-    pub far-out : 4096 * n ≤ x → x < 2 ^ 62 → outAt n b c (shapeOf c) w ≡ false
-    far-out l h = out-low n b c (shapeOf c) w (omega (arith, behind-granule h))
+    pub far-out : 4096 * n ≤ x → x < 2 ^ 62 → outAt n b (poolId c) (shapeOf (poolId c)) w ≡ false
+    far-out l h = out-low n b (poolId c) (shapeOf (poolId c)) w (omega (arith, behind-granule h))
 
-    pub granted-far : 4096 * n ≤ x → false ≡ (ofKind (shapeOf c .kind) w && grantedIn n b c w)
+    pub granted-far : 4096 * n ≤ x → false ≡ (formatValid b && (ofKind (shapeOf (poolId c) .kind) w && grantedIn n b c w))
     granted-far l =
         by-cases (leb (2 ^ 62) x)
-        (λ t. rw (far-kind t))
-        (λ t. let s = leb-false (2 ^ 62) x t in rw (near-kind s, far-out l s))
+        (λ t. rw (far-kind t) (sym (and-no (formatValid b))))
+        (λ t. let s = leb-false (2 ^ 62) x t in rw (near-kind s, far-out l s) (sym (and-no (formatValid b))))
+
+    pub granted-unmade : (f : Bool) → f ≡ formatValid b → not f ≡ true → false ≡ (formatValid b && (ofKind (shapeOf (poolId c) .kind) w && grantedIn n b c w))
+    granted-unmade f e u = rw (← e, not-true f u)
 
     module _ (a : PoolPre n b c) (l : x < 4096 * n) where
       near : x < 2 ^ 62
@@ -67,8 +76,9 @@ module _ (c w x : ℕ) (ex : (x + blockWord (shapeOf c .kind) 0) % 2 ^ 64 ≡ w)
         near-stocked : stocked b c (granuleOf w) ≡ s
         near-stocked = rw (← (behind-granule near)) (sym es)
 
-        pub granted-stocked : s ≡ true → false ≡ (ofKind (shapeOf c .kind) w && grantedIn n b c w)
-        granted-stocked z = rw (near-kind near, near-stocked, z) (sym (and-no (outAt n b c (shapeOf c) w)))
+        pub granted-stocked : s ≡ true → false ≡ (formatValid b && (ofKind (shapeOf (poolId c) .kind) w && grantedIn n b c w))
+        granted-stocked z = rw (near-kind near, near-stocked, z, and-no (outAt n b (poolId c) (shapeOf (poolId c)) w)) (sym (and-no (formatValid b)))
 
-        pub granted-out : (o : Bool) → s ≡ false → o ≡ outAt n b c (shapeOf c) w → o ≡ (ofKind (shapeOf c .kind) w && grantedIn n b c w)
-        granted-out o z eo = rw (near-kind near, near-stocked, z, ← eo) (sym (and-true o))
+        pub granted-out : (f : Bool) → f ≡ formatValid b → not f ≡ false → (o : Bool) → s ≡ false → o ≡ outAt n b (poolId c) (shapeOf (poolId c)) w
+            → o ≡ (formatValid b && (ofKind (shapeOf (poolId c) .kind) w && grantedIn n b c w))
+        granted-out f e u o z eo = rw (← e, not-false f u, near-kind near, near-stocked, z, ← eo) (sym (and-true o))

@@ -1,5 +1,5 @@
 // An alloc: the stock's top, or a take that fills the stock.
-ghost use Rattle.classes.specs.Shape.{shapeOf};
+ghost use Rattle.classes.specs.Shape.{shapeOf, poolId};
 ghost use Rattle.calls.specs.Take.{takeCall};
 ghost use Rattle.pool.specs.Stock.{blank};
 ghost use Rattle.poolcalls.specs.Calls.{bringOn, tookOn, allocOn, BlockEnds};
@@ -11,6 +11,7 @@ use crate::cells::set_count;
 use crate::places::put_all;
 use crate::top::block_word;
 use crate::top::top_valid;
+use classes::pool_id;
 use take::call::Take;
 
 // Of m blocks of a list the last, or none; the others are the stock.
@@ -30,10 +31,10 @@ fn bring(meta: &mut [u32], n: u32, c: u32, list: &[u64], m: u32) -> u64
 // A take into a list of the pool's own.
 fn refill(meta: &mut [u32], n: u32, c: u32, host: u32, block: &mut u64) -> u32
     requires { ⌜ PoolPre n (now meta) c ⌝ }
-    ensures { λ r. ⌜ BlockEnds (tookOn c (takeCall n (now (meta .entry)) c (shapeOf c) host blank)) r (now (meta .exit)) (now (block .entry)) (now (block .exit)) ⌝ }
+    ensures { λ r. ⌜ BlockEnds (tookOn c (takeCall n (now (meta .entry)) (poolId c) (shapeOf (poolId c)) host blank)) r (now (meta .exit)) (now (block .entry)) (now (block .exit)) ⌝ }
 {
     let mut list = [0; 64];
-    match take::call::take_call(meta, n, c, host, &mut list, true) {
+    match take::call::take_call(meta, n, pool_id(c), host, &mut list, true) {
         Take::Refused(k) => k,
         Take::Took(m, _) => {
             *block = bring(meta, n, c, &list, m);

@@ -10,13 +10,13 @@ use fields::bits::read_bits;
 fn count_word(c: u32) -> usize
     ensures { λ r. ⌜ r ≡ countAt c ⌝ }
 {
-    167 + 8 * (c as usize)
+    775 + 8 * (c as usize)
 }
 
 fn entry_word(c: u32, k: u32) -> usize
     ensures { λ r. ⌜ r ≡ entryAt c k ⌝ }
 {
-    9216 + 256 * (c as usize) + k as usize
+    10240 + 256 * (c as usize) + k as usize
 }
 
 fn place_word(g: u32) -> usize

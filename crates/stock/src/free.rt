@@ -38,6 +38,10 @@ fn keep(meta: &mut [u32], n: u32, c: u32, k: u32, g: u32, w: u64) -> u32
         if k > COUNT_MAX {
             return 13;
         }
+        let made = fields::fault::format_valid(meta);
+        if !made {
+            return 13;
+        }
         push(meta, n, c, k, g);
         return 0;
     }

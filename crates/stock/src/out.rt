@@ -2,12 +2,13 @@
 ghost use mathlib.Core.Path.{_≡_};
 ghost use Prim.Native.Nat.{_*_, _<_};
 ghost use Rattle.words.specs.Word.{granuleOf};
-ghost use Rattle.classes.specs.Shape.{shapeOf};
+ghost use Rattle.classes.specs.Shape.{shapeOf, poolId};
 ghost use Rattle.pages.specs.Runs.{whole};
 ghost use Rattle.pages.specs.Stack.{pageAt};
 ghost use Rattle.calls.specs.Out.{outAt};
 ghost use Rattle.release.specs.way.Blocks.{blockAt};
 ghost use Rattle.stock.specs.way.Pre.{PagePre, SmallPre, PoolPre};
+use classes::pool_id;
 use classes::shape_of;
 use pages::page_within;
 use release::Found;
@@ -17,10 +18,11 @@ use release::find_out;
 // For any class.
 pub fn out_at(meta: &[u32], n: u32, c: u32, w: u64) -> bool
     requires { ⌜ PoolPre n (now meta) c ⌝ }
-    ensures { λ r. ⌜ r ≡ outAt n (now (meta .entry)) c (shapeOf c) w ⌝ }
+    ensures { λ r. ⌜ r ≡ outAt n (now (meta .entry)) (poolId c) (shapeOf (poolId c)) w ⌝ }
 {
-    let shape = shape_of(c);
-    let found = find_out(meta, n, c, shape, w);
+    let id = pool_id(c);
+    let shape = shape_of(id);
+    let found = find_out(meta, n, id, shape, w);
     let Out::Block(_, _) = found else {
         return false;
     };
@@ -30,12 +32,13 @@ pub fn out_at(meta: &[u32], n: u32, c: u32, w: u64) -> bool
 // Page p is a run of the small class.
 fn is_run(meta: &[u32], n: u32, c: u32, p: u32) -> bool
     requires { ⌜ PagePre n (now meta) c p ⌝ }
-    ensures { λ r. ⌜ r ≡ whole n (now (meta .entry)) (shapeOf c) c p ⌝ }
+    ensures { λ r. ⌜ r ≡ whole n (now (meta .entry)) (shapeOf (poolId c)) (poolId c) p ⌝ }
 {
     if p >= fields::arena::frontier(meta) {
         return false;
     }
-    if fields::page::owner(meta, p) != c + 1 {
+    let id = pool_id(c);
+    if fields::page::owner(meta, p) != id + 1 {
         return false;
     }
     fields::page::first(meta, p) == p
@@ -48,7 +51,7 @@ const ROOM: u32 = 4093;
 // blocks.
 fn small_at(c: u32, w: u64) -> Found
     requires { ⌜ c < 64 ⌝ }
-    ensures { λ r. ⌜ r ≡ blockAt (shapeOf c) (pageAt w) w ⌝ }
+    ensures { λ r. ⌜ r ≡ blockAt (shapeOf (poolId c)) (pageAt w) w ⌝ }
 {
     let shape = shape_of(c);
     let y = (std::num::wrapping_sub_u64(w, 3) % 4096) as u32;
@@ -64,7 +67,7 @@ fn small_at(c: u32, w: u64) -> Found
 // A small class has a way of its own, since its runs are one page: a fifth less than by `out_at` (docs/PERFORMANCE.md).
 fn small_out(meta: &[u32], n: u32, c: u32, w: u64) -> bool
     requires { ⌜ SmallPre n (now meta) c w ⌝ }
-    ensures { λ r. ⌜ r ≡ outAt n (now (meta .entry)) c (shapeOf c) w ⌝ }
+    ensures { λ r. ⌜ r ≡ outAt n (now (meta .entry)) (poolId c) (shapeOf (poolId c)) w ⌝ }
 {
     let p = page_within(w);
     if is_run(meta, n, c, p) {
@@ -81,7 +84,7 @@ fn small_out(meta: &[u32], n: u32, c: u32, w: u64) -> bool
 pub fn is_out(meta: &[u32], n: u32, c: u32, w: u64) -> bool
     requires { ⌜ PoolPre n (now meta) c ⌝ }
     requires { ⌜ granuleOf w < 4096 * n ⌝ }
-    ensures { λ r. ⌜ r ≡ outAt n (now (meta .entry)) c (shapeOf c) w ⌝ }
+    ensures { λ r. ⌜ r ≡ outAt n (now (meta .entry)) (poolId c) (shapeOf (poolId c)) w ⌝ }
 {
     if c < 64 {
         return small_out(meta, n, c, w);

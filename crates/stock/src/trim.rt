@@ -14,8 +14,11 @@ pub fn trim(meta: &mut [u32], n: u32, c: u32, host: u32, block: &mut u64) -> u32
 {
     let k = count(meta, c);
     if k == 0 {
-        *block = 0;
-        return 0;
+        if fields::fault::format_valid(meta) {
+            *block = 0;
+            return 0;
+        }
+        return 13;
     }
     if !top_valid(meta, n, c, k) {
         return 13;

@@ -1,13 +1,14 @@
 -- Every block that a take answers lies in the arena, on any book: its page is one of a run that the plan found whole, or that the arena gave.
 use Rattle.facts.proofs.Prelude.{ℕ, zero, suc, _+_, _-_, _*_, _≤_, _<_, arith, mul-le-mul-right, Bool, true, false, cond, not, List, [], _∷_}
-use Rattle.facts.proofs.Prelude.{_++_, map, Option, none, some, _≡_, refl, _∙_, eqb, ltb, leb, length, getD, ltb-true, ltb-false, leb-true}
+use Rattle.facts.proofs.Prelude.{_++_, map, Option, none, some, _≡_, refl, _∙_, eqb, ltb, leb, length, getD, ltb-true, leb-true}
 use Rattle.facts.proofs.Prelude.{le-leb, lt-ltb, eqb-true, eqb-false, not-true, not-false, All, every, by-cases, and-left, and-right}
 use Rattle.words.specs.Limits.{classRows}
 use Rattle.words.specs.Word.{granuleOf}
 use Rattle.classes.specs.declared.Shape.{Shape}
 use Rattle.classes.specs.way.Sound.{Sound}
 use Rattle.fields.specs.Field.{arena, class, frontier, partial, empty, cold, get, words}
-use Rattle.fields.specs.Ranges.{maxPages}
+use Rattle.fields.specs.Ranges.{maxPages, headValid}
+use Rattle.fields.proofs.Sound.{head-frontier}
 use Rattle.model.specs.Page.{wordOf}
 use Rattle.model.proofs.Pages.{all-append}
 use Rattle.arena.specs.Calls.{commitFor}
@@ -112,8 +113,8 @@ module _ (n : ℕ) (few : n ≤ maxPages) (c : ℕ) (sh : Shape) (sd : Sound sh)
     blocks-low : (b : List ℕ) (h : ℕ) → c < classRows → words n ≤ length b → InArena n (takeBlocks n b c sh h l)
     unfolding takeBlocks
     blocks-low b h known long =
-        either n (ltb n (get b (arena frontier))) (tookNone b l 13) _ (λ e. none-taken) (λ e.
-        let a : TakePre n b c sh = record { known = known; shape = sd; few = few; long = long; bound = ltb-false n (get b (arena frontier)) e } in
+        either n (not (headValid n b)) (tookNone b l 13) _ (λ e. none-taken) (λ e.
+        let a : TakePre n b c sh = record { known = known; shape = sd; few = few; long = long; bound = head-frontier n b (not-false _ e) } in
         either n (not (eqb (get b (class partial c)) 0)) (fromPartial n b c sh l) _ (λ u. partial-low b a) (λ u.
         let alone = eqb-true (get b (class partial c)) 0 (not-false _ u) in
         either n (not (eqb (get b (class empty c)) 0)) (fromPark n b c sh Empty l) _ (λ v. park-low b a alone Empty (eqb-false (get b (class empty c)) 0 (not-true _ v))) (λ v.

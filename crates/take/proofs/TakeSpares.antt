@@ -4,7 +4,8 @@ use mathlib.Core.Option as Option
 use Rattle.classes.specs.declared.Shape.{Shape}
 use Rattle.classes.specs.Shape.{shapeOf}
 use Rattle.classes.proofs.Shapes.{shape-sound}
-use Rattle.fields.specs.Field.{arena, class, frontier, partial, empty, cold, get}
+use Rattle.fields.specs.Field.{class, partial, empty, cold, get}
+use Rattle.fields.specs.Ranges.{headValid}
 use Rattle.pages.specs.Links.{link, top, unparkRun}
 use Rattle.pages.specs.Carve.{newRun}
 use Rattle.pages.specs.declared.Park.{Park}
@@ -66,7 +67,7 @@ module _ (n : ℕ) (b : List ℕ) (c : ℕ) (sh : Shape) where
   pub blocks-fixed : (h : ℕ) → Fixed b (sh .batch) (takeBlocks n b c sh h)
   unfolding takeBlocks
   blocks-fixed h =
-      either b (sh .batch) (ltb n (get b (arena frontier))) (λ l. tookNone b l 13) _ none-taken
+      either b (sh .batch) (not (headValid n b)) (λ l. tookNone b l 13) _ none-taken
       (either b (sh .batch) (not (eqb (get b (class partial c)) 0)) (fromPartial n b c sh) _ partial-fixed
       (either b (sh .batch) (not (eqb (get b (class empty c)) 0)) (fromPark n b c sh Empty) _ (park-fixed Empty)
       (either b (sh .batch) (not (eqb (get b (class cold c)) 0)) (fromPark n b c sh Cold) (takeNew n b c sh h) (park-fixed Cold) (new-fixed h))))

@@ -1,5 +1,5 @@
 -- The ways out of the takes.
-use Rattle.facts.proofs.Prelude.{ℕ, zero, suc, _+_, _-_, _≤_, _<_, min, arith, add-one, Bool, true, false, cond, _&&_, false≢true, List, Option, none, some, _≡_, refl, sym}
+use Rattle.facts.proofs.Prelude.{ℕ, zero, suc, _+_, _-_, _≤_, _<_, min, arith, add-one, Bool, true, false, cond, _&&_, false≢true, List, Option, none, some, _≡_, refl, sym, not, not-true, not-false}
 use Rattle.facts.proofs.Prelude.{ap, _∙_, eqb, ltb, leb, length, lt-ltb, le-ltb, le-leb, ltb-true, ltb-false, eq-eqb, ne-eqb, eqb-true, isSome, by-cases, and-left, and-right}
 use mir.Val.{boolByte}
 use Rattle.words.specs.Limits.{classRows}
@@ -8,6 +8,8 @@ use Rattle.classes.specs.Shape.{shapeOf}
 use Rattle.classes.proofs.Shapes.{shape-sound}
 use Rattle.fields.specs.Field.{arena, class, frontier, partial, empty, cold, words, get}
 use Rattle.fields.proofs.Changes.{Changes}
+use Rattle.fields.specs.Ranges.{headValid}
+use Rattle.fields.proofs.Sound.{head-frontier}
 use Rattle.runs.specs.declared.Commit as Commit
 use Rattle.runs.specs.declared.Commit.the-variants as Made
 use Rattle.arena.specs.Valid.{commitValid}
@@ -262,14 +264,14 @@ module _ (b : List ℕ) (c x : ℕ) (ex : x ≡ get b (class partial c)) where
     first-unparks = let o = a .unparks (sym ex ∙ z) in rw (ey, ek) o
 
 -- ---- the first source that has a page
-module _ (n : ℕ) (b : List ℕ) (c : ℕ) (sh : Shape) (f : ℕ) (e : f ≡ get b (arena frontier)) where
-  pub plan-invalid : n < f → Plans (Refused 13) n b c sh
+module _ (n : ℕ) (b : List ℕ) (c : ℕ) (sh : Shape) (f : Bool) (e : f ≡ headValid n b) where
+  pub plan-invalid : not f ≡ true → Plans (Refused 13) n b c sh
   unfolding Plans takeBlocks
-  plan-invalid u = (refl, λ h l. rw (← e, lt-ltb n f u))
+  plan-invalid u = (refl, λ h l. rw (← e, not-true f u))
 
-  module _ (a : SourcePre n b c sh) (u : f ≤ n) where
-    source-pre : TakePre n b c sh
-    source-pre = record { known = a .known; shape = a .shape; few = a .few; long = a .long; bound = omega arith }
+  module _ (a : SourcePre n b c sh) (u : not f ≡ false) where
+    pub source-pre : TakePre n b c sh
+    source-pre = record { known = a .known; shape = a .shape; few = a .few; long = a .long; bound = head-frontier n b (sym e ∙ not-false f u) }
 
     row : RowPre b c
     row = record { known = a .known; long = omega (arith, a .long) }
@@ -278,7 +280,7 @@ module _ (n : ℕ) (b : List ℕ) (c : ℕ) (sh : Shape) (f : ℕ) (e : f ≡ ge
       module _ (d : x ≡ 0 → ⊥) where
         lists : (h : ℕ) (l : List ℕ) → takeBlocks n b c sh h l ≡ fromPartial n b c sh l
         unfolding takeBlocks
-        lists h l = rw (← e, le-ltb n f u, ← ex, ne-eqb x 0 d)
+        lists h l = rw (← e, not-false f u, ← ex, ne-eqb x 0 d)
 
         pub plan-listed : (p : Plan) → Foretold p (walksFrom n b c sh) (fills b c sh) → Plans p n b c sh
         unfolding Plans fromPartial
@@ -301,7 +303,7 @@ module _ (n : ℕ) (b : List ℕ) (c : ℕ) (sh : Shape) (f : ℕ) (e : f ≡ ge
 
         pub plan-none : y ≡ 0 → Plans Nothing n b c sh
         unfolding Plans takeBlocks
-        plan-none o = (record { pre = source-pre; alone = sym ex ∙ z }, λ h l. rw (← e, le-ltb n f u, ← ex, z, no-empty o, no-cold o))
+        plan-none o = (record { pre = source-pre; alone = sym ex ∙ z }, λ h l. rw (← e, not-false f u, ← ex, z, no-empty o, no-cold o))
 
         module _ (d : y ≡ 0 → ⊥) where
           parks : (h : ℕ) (l : List ℕ) → takeBlocks n b c sh h l ≡ fromPark n b c sh k l
@@ -311,8 +313,8 @@ module _ (n : ℕ) (b : List ℕ) (c : ℕ) (sh : Shape) (f : ℕ) (e : f ≡ ge
               (λ w.
               let k′ : k ≡ Cold = ek ∙ rw w in
               let some-cold : get b (class cold c) ≡ 0 → ⊥ = λ o. d (ey ∙ ap (λ j. get b (class (top j) c)) k′ ∙ o) in
-              rw (← e, le-ltb n f u, ← ex, z, w, ne-eqb (get b (class cold c)) 0 some-cold, k′))
-              (λ w. let k′ : k ≡ Empty = ek ∙ rw w in rw (← e, le-ltb n f u, ← ex, z, w, k′))
+              rw (← e, not-false f u, ← ex, z, w, ne-eqb (get b (class cold c)) 0 some-cold, k′))
+              (λ w. let k′ : k ≡ Empty = ek ∙ rw w in rw (← e, not-false f u, ← ex, z, w, k′))
 
           parked-pre : ParkedPre n b c sh k
           parked-pre = record { pre = source-pre; alone = sym ex ∙ z; some = omega (arith, ey, d) }

@@ -159,7 +159,7 @@ pub fn plan_take(meta: &[u32], n: u32, c: u32, shape: Shape) -> Plan
     requires { ⌜ SourcePre n (now meta) c shape ⌝ }
     ensures { λ r. ⌜ Plans r n (now (meta .entry)) c shape ⌝ }
 {
-    if n < fields::arena::frontier(meta) {
+    if !fields::fault::head_valid(meta, n) {
         return Plan::Refused(13);
     }
     if fields::class::partial(meta, c) != 0 {

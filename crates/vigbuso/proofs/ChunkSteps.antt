@@ -1,7 +1,7 @@
 -- The ways out of the exported group release.
-use Rattle.facts.proofs.Prelude.{ℕ, arith, true, List, _≡_, refl, ltb, eq-eqb, ne-eqb, lt-ltb}
+use Rattle.facts.proofs.Prelude.{ℕ, arith, true, List, _≡_, refl, ltb, eq-eqb, ne-eqb, lt-ltb, ltb-true}
 use Rattle.classes.specs.declared.Shape.{Shape}
-use Rattle.classes.specs.Shape.{shapeOf, smallShape}
+use Rattle.classes.specs.Shape.{shapeOf, smallShape, classCount}
 use Rattle.fields.specs.Field.{arena, size, get}
 use Rattle.calls.specs.Chunks.{ChunksReleased, releaseChunks}
 use Rattle.chunks.specs.way.CallPre.{CallPre, ChunksAnswered}
@@ -13,7 +13,7 @@ use Rattle.vigbuso.proofs.ReleaseSteps.{class-pre}
 -- a small class's run is one page
 one-page : (c : ℕ) → ltb c 64 ≡ true → shapeOf c .pages ≡ 1
 unfolding shapeOf smallShape
-one-page c e = rw e refl
+one-page c e = rw (lt-ltb c classCount (omega (arith, ltb-true c 64 e)), e) refl
 
 pub chunks-pre : (b : List ℕ) (h r c n : ℕ) (sh : Shape) → r ≡ classFault b h 64 c → r ≡ 0 → n ≡ get b (arena size) → sh ≡ shapeOf c → CallPre n b c sh
 chunks-pre b h r c n sh e z f w =

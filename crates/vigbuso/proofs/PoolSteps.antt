@@ -1,12 +1,15 @@
 -- The ways out of the exported calls of the pool.
-use Rattle.facts.proofs.Prelude.{ℕ, _-_, _≤_, _<_, arith, Bool, true, false, cond, _&&_, List, _≡_, refl, sym, _∙_, eq-eqb, ne-eqb, le-leb, lt-leb}
-use Rattle.classes.specs.Shape.{shapeOf, classCount}
-use Rattle.fields.specs.Field.{arena, size, get}
-use Rattle.fields.specs.Ranges.{metaFault}
+use Rattle.facts.proofs.Prelude.{ℕ, _-_, _≤_, _<_, arith, Bool, true, false, cond, not, _&&_, List, _≡_, refl, sym, _∙_, leb, length, eq-eqb, ne-eqb}
+use Rattle.facts.proofs.Prelude.{le-leb, lt-leb, not-true, not-false}
+use Rattle.words.specs.Limits.{classRows}
+use Rattle.classes.specs.Shape.{shapeOf, classCount, poolId, numberOf}
+use Rattle.fields.specs.Field.{arena, size, frontier, get, Has}
+use Rattle.fields.specs.Ranges.{metaFault, formatValid, headValid}
+use Rattle.fields.proofs.Sound.{head-frontier}
 use Rattle.model.specs.Release.{ofKind}
 use Rattle.stock.specs.way.Pre.{StockPre, PoolPre}
 use Rattle.trace.specs.way.Pre.{BookPre}
-use Rattle.trace.specs.Words.{ownerAt, known}
+use Rattle.trace.specs.Words.{ownerAt}
 use Rattle.pool.specs.Pool.{PoolRequest, alloc, free, trim, hostIn}
 use Rattle.poolcalls.specs.Calls.{requestOn, allocOn, freeOn, trimOn, grantedIn, stockedIn}
 use Rattle.vigbuso.specs.Faults.{classFault, admits}
@@ -45,7 +48,7 @@ module _ (b : List ℕ) (c r h : ℕ) (e : r ≡ classFault b h classCount c) wh
     pub trim-goes : (old new : ℕ) → BlockEnds (trimOn n b c h) s b′ old new → BlockEnds (poolOn b c (trim h)) s b′ old new
     trim-goes old new t = rw (goes (trim h) refl) t
 
--- ---- the class that has a block's page
+-- ---- the number of the class that has a block's page
 module _ (b : List ℕ) (w r : ℕ) (e : r ≡ metaFault b) where
   pub class-unfit : (r ≡ 0 → ⊥) → classCount ≡ classOn b w
   unfolding classOn
@@ -56,23 +59,41 @@ module _ (b : List ℕ) (w r : ℕ) (e : r ≡ metaFault b) where
     book-valid = sym e ∙ z
 
     module _ (n : ℕ) (f : n ≡ get b (arena size)) where
-      pub owner-pre : BookPre n b
-      owner-pre = let k = book-in b book-valid n f in record { few = k .small; long = k .long }
+      pub book-long : 40000 ≤ length b
+      book-long = omega (arith, book-in b book-valid n f .long)
 
-      module _ (k : ℕ) (ek : k ≡ ownerAt n b w) where
-        held : classOn b w ≡ cond (known k) (k - 1) classCount
+      pub has-frontier : Has b (arena frontier)
+      has-frontier = omega (arith, book-long)
+
+      module _ (t : Bool) (et : t ≡ headValid n b) where
+        pub class-unmade : not t ≡ true → classCount ≡ classOn b w
         unfolding classOn
-        held = rw (← e, eq-eqb r 0 z, ← f, ← ek)
+        class-unmade u = rw (← e, eq-eqb r 0 z, ← f, ← et, not-true t u)
 
-        pub class-none : k ≡ 0 → classCount ≡ classOn b w
-        class-none o = sym (held ∙ rw o)
+        module _ (u : not t ≡ false) (m : ℕ) (em : m ≡ get b (arena frontier)) where
+          pub owner-pre : BookPre m b
+          owner-pre =
+              let k = book-in b book-valid n f in
+              let l = head-frontier n b (sym et ∙ not-false t u) in
+              record { few = omega (arith, k .small); long = omega (arith, k .long) }
 
-        module _ (d : k ≡ 0 → ⊥) where
-          pub class-high : classCount < k → classCount ≡ classOn b w
-          class-high h = sym (held ∙ rw (le-leb 1 k (omega (arith, d)), lt-leb k classCount h))
+          module _ (k : ℕ) (ek : k ≡ ownerAt m b w) where
+            held : classOn b w ≡ cond (leb 1 k && leb k classRows) (numberOf (k - 1)) classCount
+            unfolding classOn
+            held = rw (← e, eq-eqb r 0 z, ← f, ← et, not-false t u, ← em, ← ek)
 
-          pub class-held : k ≤ classCount → k - 1 ≡ classOn b w
-          class-held h = sym (held ∙ rw (le-leb 1 k (omega (arith, d)), le-leb k classCount h))
+            pub class-none : k ≡ 0 → classCount ≡ classOn b w
+            class-none o = sym (held ∙ rw o)
+
+            module _ (d : k ≡ 0 → ⊥) where
+              some : leb 1 k ≡ true
+              some = le-leb 1 k (omega (arith, d))
+
+              pub class-high : classRows < k → classCount ≡ classOn b w
+              class-high h = sym (held ∙ rw (some, lt-leb k classRows h))
+
+              pub class-held : k ≤ classRows → (s : ℕ) → s ≡ numberOf (k - 1) → s ≡ classOn b w
+              class-held h s es = es ∙ sym (held ∙ rw (some, le-leb k classRows h))
 
 -- ---- a granted block, and the blocks in stock
 module _ (b : List ℕ) (c : ℕ) (t : Bool) (e : t ≡ admits b c) where
@@ -93,7 +114,7 @@ module _ (b : List ℕ) (c : ℕ) (t : Bool) (e : t ≡ admits b c) where
     pub stock-pre : StockPre b c
     stock-pre = let a = admitted-pre (get b (arena size)) refl in record { known = a .known; long = omega (arith, a .long) }
 
-    pub granted-is : (n w : ℕ) (g : Bool) → n ≡ get b (arena size) → g ≡ (ofKind (shapeOf c .kind) w && grantedIn n b c w) → g ≡ grantedOn b c w
+    pub granted-is : (n w : ℕ) (g : Bool) → n ≡ get b (arena size) → g ≡ (formatValid b && (ofKind (shapeOf (poolId c) .kind) w && grantedIn n b c w)) → g ≡ grantedOn b c w
     unfolding grantedOn
     granted-is n w g f h = rw (← e, z, ← f) h
 

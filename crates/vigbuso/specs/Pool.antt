@@ -3,15 +3,16 @@
 use Prim.Native.Nat.{ℕ, _-_}
 use mathlib.Core.List.{List}
 use mathlib.Core.Bool.{Bool, cond, _&&_}
-use lib.Dec.{eqb}
-use Rattle.classes.specs.Shape.{shapeOf, classCount}
-use Rattle.fields.specs.Field.{arena, size, get}
-use Rattle.fields.specs.Ranges.{metaFault}
+use lib.Dec.{eqb, leb}
+use Rattle.words.specs.Limits.{classRows}
+use Rattle.classes.specs.Shape.{shapeOf, classCount, poolId, numberOf}
+use Rattle.fields.specs.Field.{arena, size, frontier, get}
+use Rattle.fields.specs.Ranges.{metaFault, formatValid, headValid}
 use Rattle.model.specs.Release.{ofKind}
 use Rattle.pool.specs.Pool.{PoolRequest, hostIn, refused}
 pub use Rattle.poolcalls.specs.Calls.{BlockEnds, FreeEnds}
 use Rattle.poolcalls.specs.Calls.{PoolReply, poolReply, requestOn, grantedIn, stockedIn}
-use Rattle.trace.specs.Words.{ownerAt, known}
+use Rattle.trace.specs.Words.{ownerAt}
 use Rattle.vigbuso.specs.Faults.{classFault, admits}
 
 unfoldable pub poolOn : List ℕ → ℕ → PoolRequest → PoolReply
@@ -19,16 +20,17 @@ poolOn b c x =
     cond (eqb (classFault b (hostIn x) classCount c) 0)
     (requestOn (get b (arena size)) b c x) (poolReply (refused (classFault b (hostIn x) classCount c)) b)
 
--- the class that has the block's page, by OWNER; `classCount` for none, and on a book that 1 or 2 refuses
+-- the number of the class that has the block's page, below FRONTIER, by OWNER, be it the heap's or the pool's; `classCount` for none, and on a book that 1 or 2
+-- refuses or whose FORMAT or FRONTIER is out of its range
 unfoldable pub classOn : List ℕ → ℕ → ℕ
 classOn b w =
-    let k = ownerAt (get b (arena size)) b w in
-    cond (eqb (metaFault b) 0) (cond (known k) (k - 1) classCount) classCount
+    let k = ownerAt (get b (arena frontier)) b w in
+    cond (eqb (metaFault b) 0 && headValid (get b (arena size)) b) (cond (leb 1 k && leb k classRows) (numberOf (k - 1)) classCount) classCount
 
--- whether the block is granted in the class; not on a book that 1 or 2 refuses, nor in a class above 75
+-- whether the block is granted in the class; not on a book that 1 or 2 refuses or that no opening of this layout made, nor in a class above 75
 unfoldable pub grantedOn : List ℕ → ℕ → ℕ → Bool
-grantedOn b c w = admits b c && (ofKind (shapeOf c .kind) w && grantedIn (get b (arena size)) b c w)
+grantedOn b c w = admits b c && (formatValid b && (ofKind (shapeOf (poolId c) .kind) w && grantedIn (get b (arena size)) b c w))
 
--- how many blocks the class has in stock; 0 on a book that 1 or 2 refuses, in a class above 75, and for a COUNT out of its range
+-- how many blocks the class has in stock; 0 on a book that 1 or 2 refuses, in a class above 75, and for a FORMAT or a COUNT out of its range
 unfoldable pub stockedOn : List ℕ → ℕ → ℕ
 stockedOn b c = cond (admits b c) (stockedIn b c) 0

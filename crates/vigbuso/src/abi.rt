@@ -3,8 +3,8 @@ ghost use mathlib.Core.Path.{_≡_};
 
 // The name has the number. Both change when a program or a book of before would be misread.
 #[no_mangle]
-pub extern "C" fn vigbuso_abi_6() -> u32
-    ensures { λ r. ⌜ r ≡ 6 ⌝ }
+pub extern "C" fn vigbuso_abi_7() -> u32
+    ensures { λ r. ⌜ r ≡ 7 ⌝ }
 {
-    6
+    7
 }

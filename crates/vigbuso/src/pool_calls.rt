@@ -3,6 +3,8 @@
 use crate::faults::class_fault;
 use crate::faults::is_admitted;
 use classes::CLASS_COUNT;
+use classes::CLASS_ROWS;
+use classes::number_of;
 ghost use mathlib.Core.Path.{_≡_};
 ghost use Rattle.pool.specs.Pool.{alloc, free, trim};
 ghost use Rattle.words.specs.Host.{digit};
@@ -44,7 +46,7 @@ pub extern "C" fn vigbuso_trim(meta: &mut [u32], class: u32, host: u32, block: &
     stock::trim::trim(meta, size, class, host, block)
 }
 
-// The class that has the block's page, or CLASS_COUNT.
+// The number of the class that has the block's page, the heap's or the pool's; or CLASS_COUNT. No page at or above the frontier has one.
 #[no_mangle]
 pub extern "C" fn vigbuso_class_of(meta: &[u32], block: u64) -> u32
     ensures { λ r. ⌜ r ≡ classOn (now (meta .entry)) block ⌝ }
@@ -53,14 +55,17 @@ pub extern "C" fn vigbuso_class_of(meta: &[u32], block: u64) -> u32
         return CLASS_COUNT;
     }
     let size = fields::arena::size(meta);
-    let owner = trace::acts::owner_at(meta, size, block);
+    if !fields::fault::head_valid(meta, size) {
+        return CLASS_COUNT;
+    }
+    let owner = trace::acts::owner_at(meta, fields::arena::frontier(meta), block);
     if owner == 0 {
         return CLASS_COUNT;
     }
-    if owner > CLASS_COUNT {
+    if owner > CLASS_ROWS {
         return CLASS_COUNT;
     }
-    owner - 1
+    number_of(owner - 1)
 }
 
 fn granted_on(meta: &[u32], class: u32, block: u64) -> bool

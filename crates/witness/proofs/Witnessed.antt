@@ -21,7 +21,7 @@ use Rattle.vigbuso.specs.Blocks.{takeOn, TakeEnds, ReleaseEnds, chunksOn, Chunk
 use Rattle.demands.specs.Contracts as Observes
 use Rattle.demands.specs.PoolContracts as PoolObserves
 use Rattle.demands.proofs.PoolContracts.{pool-observes-call}
-use Rattle.demands.proofs.PoolTheorems.{pool-demand}
+use Rattle.demands.proofs.Mixed.{mixed-demand}
 use Rattle.demands.proofs.PoolRefusals.{pool-demand-1}
 use Rattle.demands.proofs.Contracts.{observes-call}
 use Rattle.demands.proofs.Refusals.{digit-one, open-refuses, commit-refuses, grow-refuses, give-refuses, report-refuses, take-refuses, release-refuses, chunks-refuses, contains-answers, table-refuses, game-refuses, plan-refuses, listing-refuses}
@@ -135,20 +135,20 @@ module _ (b : List ℕ) (r : ℕ) where
   pub granted-observed : (c w : ℕ) → r ≡ digit (grantedOn b c w) → GrantedObserved b c w r
   granted-observed c w e = record {
     answer = pool-demand-1 .granted b c w r e;
-    observed = λ n rows b₀ o xs d.
-        let t = pool-demand .after n rows b₀ o xs .granted c w in
-        let f : r ≡ digit (grantedOn _ c w) = e ∙ ap (λ s. digit (grantedOn s c w)) d in
+    observed = λ s o xs d.
+        let t = mixed-demand .after s o xs .granted c w in
+        let f : r ≡ digit (grantedOn _ c w) = e ∙ ap (λ m. digit (grantedOn m c w)) d in
         (λ z. t .0 (digit-one _ (sym f ∙ z)), λ u. f ∙ ap digit (t .1 u));
   }
 
   pub stocked-observed : (c : ℕ) → r ≡ stockedOn b c → StockedObserved b c r
   stocked-observed c e = record {
     answer = pool-demand-1 .stocked b c r e;
-    observed = λ low n rows b₀ o xs d. e ∙ rw d (pool-demand .after n rows b₀ o xs .stocked c low);
+    observed = λ low s o xs d. e ∙ rw d (mixed-demand .after s o xs .stocked c low);
   }
 
   pub class-observed : (w : ℕ) → r ≡ classOn b w → ClassObserved b w r
   class-observed w e = record {
     answer = pool-demand-1 .class b w r e;
-    observed = λ c n rows b₀ o xs d u. e ∙ rw d (pool-demand .after n rows b₀ o xs .class c w u);
+    observed = λ c q s o xs d low run has. e ∙ rw d (mixed-demand .after s o xs .class c q w low run has);
   }

@@ -3,21 +3,25 @@
 --     Numbered           the number that a call answers is document 01's (demand 1)
 --     Observed           that, and the call's reply is the one that the histories of demands 2 and 3 are made of
 --     Opened             the same of an opening, which starts a history
---     RequestObserved    the same of an alloc, a free or a trim, and of the histories of the pool
+--     RequestObserved    the same of an alloc, a free or a trim; `AfterMixed`, what the calls that only read tell after a mixed history
 --     .. Observed        Observed, for what the functions of one shape are lent
 -- r is what the function returns; a name with ′ is what a lent slice or an out-parameter holds afterwards.
-use Prim.Native.Nat.{ℕ}
+use Prim.Native.Nat.{ℕ, _<_}
 use mathlib.Core.List.{List}
 use mathlib.Core.Logic.{_⊎_, _↔_}
 use mathlib.Core.Path.{_≡_}
 use mathlib.Core.Bool.{true}
 use lib.Dec.{eqb, ltb}
 use lib.ListN.{length}
-use Rattle.classes.specs.Shape.{classCount}
+use Rattle.words.specs.Limits.{classRows}
+use Rattle.classes.specs.Shape.{shapeOf, classCount, poolId, numberOf}
+use Rattle.model.specs.Cover.{inRun}
 use Rattle.model.specs.Calls as Calls
 use Rattle.model.specs.Calls.{Call, taken, fate, fates, released, contained, reported}
-use Rattle.model.specs.History.{Event}
+use Rattle.model.specs.History.{Event, events}
 use Rattle.model.specs.Entries.{OutIn}
+use Rattle.model.specs.Offered.{HasRun}
+use Rattle.pages.specs.Stack.{pageAt}
 use Rattle.pool.specs.Pool.{PoolCall, PoolRequest, to, alloc, free, trim, granted, trimmed}
 use Rattle.poolcalls.specs.Stock.{stockIn}
 use Rattle.poolcalls.specs.Calls.{PoolReply, poolReply}
@@ -26,7 +30,7 @@ use Rattle.vigbuso.specs.Direct.{figuresIn}
 use Rattle.demands.specs.Call.{call}
 use Rattle.demands.specs.Run.{Opens}
 use Rattle.demands.specs.Contracts.{runObserved}
-use Rattle.demands.specs.Pool.{poolCall, poolBook, poolObserved}
+use Rattle.demands.specs.Mixed.{poolCall, mixedBook, mixedObserved, made}
 use Rattle.demands.specs.PoolContracts.{blockObserved, freeObserved}
 use Rattle.demands.specs.PoolRefusals.{allocTable, freeTable, trimTable, GrantedAnswer, StockedAnswer, ClassAnswer}
 use Rattle.demands.specs.Refusals.{Row, Refuses, Contains, openTable, commitTable, growTable, giveTable, reportTable, takeTable, releaseTable, chunksTable, rateTable, gameTable, planTable, listingTable, traceTable}
@@ -36,7 +40,7 @@ use Rattle.demands.specs.Plan.{Fits}
 use Rattle.demands.specs.Idle.{Idle}
 use Rattle.demands.specs.Parking.{Parking}
 use Rattle.demands.specs.Trace.{Traces}
-use Rattle.demands.specs.Start.{Start, opening, trace, Starts, begun, bookAfter}
+use Rattle.demands.specs.Start.{Start, opening, trace, Starts, pages, rules, begun, bookAfter}
 use Rattle.demands.specs.Listing.{ShortHistories}
 
 -- Same: all that the call was lent to write is as it was
@@ -45,6 +49,8 @@ Numbered b (Calls.takeBlocks c h l) r Same = Refuses (takeTable 0 64 b c h l) r 
 Numbered b (Calls.mediumTakeBlocks c h l) r Same = Refuses (takeTable 64 12 b c h l) r Same
 Numbered b (Calls.releaseBlocks c h ws) r Same = Refuses (releaseTable 0 64 b c h ws) r Same
 Numbered b (Calls.mediumReleaseBlocks c h ws) r Same = Refuses (releaseTable 64 12 b c h ws) r Same
+Numbered b (Calls.pooledTake c h l) r Same = Refuses (takeTable classCount classCount b c h l) r Same
+Numbered b (Calls.pooledRelease c h ws) r Same = Refuses (releaseTable classCount classCount b c h ws) r Same
 Numbered b (Calls.releaseBinChunks c h ws gs fs) r Same = Refuses (chunksTable b c h ws gs fs) r Same
 Numbered b (Calls.commit h m) r Same = Refuses (commitTable b h m) r Same
 Numbered b (Calls.growFrontier h q old new) r Same = Refuses (growTable b h q old new) r Same
@@ -134,18 +140,18 @@ FreeObserved c h w r b b′ = RequestObserved b c (free h w) (freeTable b c h w)
 abbrev pub TrimObserved : (c h r : ℕ) → (b b′ : List ℕ) → (w w′ : ℕ) → Type 0
 TrimObserved c h r b b′ w w′ = RequestObserved b c (trim h) (trimTable b c h) r (poolReply (blockObserved trimmed r w′) b′) ((b′ ≡ b) × (w′ ≡ w))
 
--- what holds of what is told by every pool history that left the book b
-abbrev pub AfterPool : List ℕ → (List Event → Type 0) → Type 0
-AfterPool b P = (n : ℕ) (rows b₀ : List ℕ) → Opens n rows b₀ → (xs : List PoolCall) → b ≡ poolBook n rows b₀ xs → P (poolObserved n rows b₀ xs)
+-- what holds of every mixed history that left the book b: of what it tells, and of the heap's calls that were made with what the arena gave at each
+abbrev pub AfterMixed : List ℕ → (List Event → List Event → Type 0) → Type 0
+AfterMixed b P = (s : Start) → Starts s → (xs : List PoolCall) → b ≡ mixedBook s xs → P (mixedObserved s xs) (events (pages s) (rules s) (made s xs))
 
 pub record GrantedObserved (b : List ℕ) (c w r : ℕ) : Type 0 where
   pub answer : GrantedAnswer b c w r
-  pub observed : AfterPool b (λ vs. (r ≡ 1) ↔ OutIn vs c w)
+  pub observed : AfterMixed b (λ vs us. (r ≡ 1) ↔ ((ltb c classCount ≡ true) × OutIn vs (poolId c) w))
 
 pub record StockedObserved (b : List ℕ) (c r : ℕ) : Type 0 where
   pub answer : StockedAnswer b c r
-  pub observed : ltb c classCount ≡ true → AfterPool b (λ vs. r ≡ length (stockIn b c))
+  pub observed : ltb c classCount ≡ true → AfterMixed b (λ vs us. r ≡ length (stockIn b c))
 
 pub record ClassObserved (b : List ℕ) (w r : ℕ) : Type 0 where
   pub answer : ClassAnswer b w r
-  pub observed : (c : ℕ) → AfterPool b (λ vs. OutIn vs c w → r ≡ c)
+  pub observed : (c q : ℕ) → AfterMixed b (λ vs us. c < classRows → HasRun c q us → inRun (shapeOf c .pages) q (pageAt w) ≡ true → r ≡ numberOf c)

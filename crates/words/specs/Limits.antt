@@ -12,9 +12,13 @@ holeSlots = 4096
 abbrev pub holePagesMax : ℕ
 holePagesMax = 65536
 
--- the class rows of a book
+-- the class rows of a book: 76 classes of the heap, and as many of the pool
 abbrev pub classRows : ℕ
-classRows = 76
+classRows = 152
+
+-- FORMAT of a book that an opening of this layout made: the letters VIG7. No other layout has it, and neither zeros nor ones are it
+abbrev pub bookFormat : ℕ
+bookFormat = 1447642935
 
 -- the largest limit of a store, empty or cold, over all classes
 abbrev pub maxParked : ℕ

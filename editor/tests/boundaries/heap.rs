@@ -87,6 +87,24 @@ extern "C" {
         fates: *mut u32,
         fates_len: usize,
     ) -> u32;
+    fn vigbuso_alloc(book: *mut u32, book_len: usize, class: u32, host: u32, block: *mut u64) -> u32;
+    fn vigbuso_free(book: *mut u32, book_len: usize, class: u32, host: u32, block: u64) -> u32;
+    fn vigbuso_trim(book: *mut u32, book_len: usize, class: u32, host: u32, block: *mut u64) -> u32;
+    fn vigbuso_class_of(book: *const u32, book_len: usize, block: u64) -> u32;
+    fn vigbuso_granted(book: *const u32, book_len: usize, class: u32, block: u64) -> u32;
+    fn vigbuso_stocked(book: *const u32, book_len: usize, class: u32) -> u32;
+    fn vigbuso_trace(
+        book: *mut u32,
+        book_len: usize,
+        pages: u64,
+        trace: *const u32,
+        trace_len: usize,
+        blocks: *mut u64,
+        blocks_len: usize,
+        figures: *mut u64,
+        figures_len: usize,
+        done: *mut u64,
+    ) -> u32;
 }
 
 type ReleaseBlocks = unsafe extern "C" fn(*mut u32, usize, u32, u32, *const u64, usize, *mut u32) -> u32;
@@ -182,17 +200,17 @@ impl<B: DerefMut<Target = [u32]>> Heap<B> {
         let (book, words) = (self.book.as_mut_ptr(), self.book.len());
         let number =
             unsafe { call(book, words, class, host, list.as_mut_ptr(), list.len(), &raw mut count, &raw mut virgin) };
-        let granules = list[..count as usize].iter().map(|word| word & ((1 << KIND_BITS) - 1)).collect();
+        let granules = list[..count as usize].iter().copied().map(granule).collect();
         answered(number, (granules, virgin == 1))
     }
 
     /// The fate of the page or span that these granules' blocks go back to.
     pub fn give(&mut self, family: Family, class: u32, host: u32, granules: &[u64]) -> Answer<u32> {
-        let (kind, call) = match family {
-            Family::Small => (1, vigbuso_release_blocks as ReleaseBlocks),
-            Family::Medium => (2, vigbuso_medium_release_blocks as ReleaseBlocks),
+        let call: ReleaseBlocks = match family {
+            Family::Small => vigbuso_release_blocks,
+            Family::Medium => vigbuso_medium_release_blocks,
         };
-        let list = words(kind, granules);
+        let list = words(family, granules);
         let mut fate = 0;
         let (book, words) = (self.book.as_mut_ptr(), self.book.len());
         let number = unsafe { call(book, words, class, host, list.as_ptr(), list.len(), &raw mut fate) };
@@ -207,7 +225,7 @@ impl<B: DerefMut<Target = [u32]>> Heap<B> {
         chunks: &[(u64, u64)],
         room: usize,
     ) -> Answer<Vec<u32>> {
-        let list = words(1, granules);
+        let list = words(Family::Small, granules);
         let chunks: Vec<u64> =
             chunks.iter().map(|(count, page)| 3 << KIND_BITS | count << CHUNK_PAGE_BITS | page).collect();
         let mut fates = vec![9; room];
@@ -227,9 +245,84 @@ impl<B: DerefMut<Target = [u32]>> Heap<B> {
         };
         answered(number, fates)
     }
+
+    /// A block's word, or none. Here and below a class is 0 to 75, by one number.
+    pub fn alloc(&mut self, class: u32, host: u32) -> Answer<Option<u64>> {
+        let (book, mut word) = (&mut self.book, 0);
+        let number = unsafe { vigbuso_alloc(book.as_mut_ptr(), book.len(), class, host, &raw mut word) };
+        answered(number, (word != 0).then_some(word))
+    }
+
+    pub fn free(&mut self, class: u32, host: u32, word: u64) -> Answer<()> {
+        let book = &mut self.book;
+        answered(unsafe { vigbuso_free(book.as_mut_ptr(), book.len(), class, host, word) }, ())
+    }
+
+    /// The word of the block that went back, or none.
+    pub fn trim(&mut self, class: u32, host: u32) -> Answer<Option<u64>> {
+        let (book, mut word) = (&mut self.book, 0);
+        let number = unsafe { vigbuso_trim(book.as_mut_ptr(), book.len(), class, host, &raw mut word) };
+        answered(number, (word != 0).then_some(word))
+    }
+
+    pub fn class_of(&self, word: u64) -> u32 {
+        unsafe { vigbuso_class_of(self.book.as_ptr(), self.book.len(), word) }
+    }
+
+    pub fn granted(&self, class: u32, word: u64) -> bool {
+        unsafe { vigbuso_granted(self.book.as_ptr(), self.book.len(), class, word) == 1 }
+    }
+
+    pub fn stocked(&self, class: u32) -> u32 {
+        unsafe { vigbuso_stocked(self.book.as_ptr(), self.book.len(), class) }
+    }
+
+    /// The words of the blocks that a trace hands out, each of which adds 64 at most.
+    pub fn trace(&mut self, pages: u64, trace: &[u32]) -> Answer<Vec<u64>> {
+        let (book, mut blocks, mut done) = (&mut self.book, vec![0; 64 * trace.len()], [0; 3]);
+        let number = unsafe {
+            vigbuso_trace(
+                book.as_mut_ptr(),
+                book.len(),
+                pages,
+                trace.as_ptr(),
+                trace.len(),
+                blocks.as_mut_ptr(),
+                blocks.len(),
+                [].as_mut_ptr(),
+                0,
+                done.as_mut_ptr(),
+            )
+        };
+        blocks.truncate(usize::try_from(done[1]).expect("64 bits"));
+        answered(number, blocks)
+    }
 }
 
-/// The words of blocks of a kind.
-fn words(kind: u64, granules: &[u64]) -> Vec<u64> {
-    granules.iter().map(|granule| kind << KIND_BITS | granule).collect()
+impl Family {
+    /// A class of all by its family, and its number there.
+    pub fn of(class: u32) -> (Family, u32) {
+        match class {
+            0..64 => (Family::Small, class),
+            _ => (Family::Medium, class - 64),
+        }
+    }
+
+    /// The word of its block at a granule.
+    pub fn word(self, granule: u64) -> u64 {
+        match self {
+            Family::Small => 1 << KIND_BITS | granule,
+            Family::Medium => 2 << KIND_BITS | granule,
+        }
+    }
+}
+
+/// The first granule of the block that a word names.
+pub fn granule(word: u64) -> u64 {
+    word & ((1 << KIND_BITS) - 1)
+}
+
+/// The words of a family's blocks.
+fn words(family: Family, granules: &[u64]) -> Vec<u64> {
+    granules.iter().map(|&granule| family.word(granule)).collect()
 }

@@ -38,7 +38,7 @@ pub fn comb(pages: u64, runs: u32, length: u32, holes: u32) -> Heap {
 /// The holes in the book, by index: first page and pages.
 pub fn holes(heap: &Heap) -> Vec<(u32, u32)> {
     let count = usize::try_from(heap.book[3]).expect("32 bits");
-    heap.book[1_024..].chunks(2).take(count).map(|hole| (hole[0], hole[1])).collect()
+    heap.book[2_048..].chunks(2).take(count).map(|hole| (hole[0], hole[1])).collect()
 }
 
 #[test]

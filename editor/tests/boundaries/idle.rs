@@ -108,6 +108,6 @@ fn a_report_reads_no_word_of_a_page_or_a_hole() {
     let taken = take(&mut heap, Family::Small, CLASS, 9);
     give(&mut heap, Family::Small, CLASS, &taken[2..]);
     let due = heap.report();
-    heap.book[768..].fill(u32::MAX);
+    heap.book[1_376..].fill(u32::MAX);
     assert_eq!(heap.report(), due);
 }

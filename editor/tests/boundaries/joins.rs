@@ -69,7 +69,7 @@ mod stands {
                 // Holes of one page: 0, 2, .. 78. Page 83 is held.
                 let mut heap = comb(100, 44, 1, 40);
                 for place in places {
-                    [heap.book[1_024 + 2 * place], heap.book[1_025 + 2 * place]] = [hole.0, hole.1];
+                    [heap.book[2_048 + 2 * place], heap.book[2_049 + 2 * place]] = [hole.0, hole.1];
                 }
                 let mut due = holes(&heap);
                 due[places[0]] = joined;

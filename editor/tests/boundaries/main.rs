@@ -3,11 +3,13 @@
 
 mod blocks;
 mod chunks;
+mod format;
 mod heap;
 mod holes;
 mod idle;
 mod joins;
 mod marks;
+mod mixed;
 mod parks;
 mod ranges;
 mod repeats;

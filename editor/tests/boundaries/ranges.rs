@@ -1,10 +1,12 @@
 //! Number 13: the highest value of a word's range passes, the next is refused. docs/RANGES.md has words and ranges; here
 //! they are written down once more, so that a range that is wrong everywhere else shows.
 
-use crate::heap::{Answer, Family, Heap, ALL, NO_COMMIT};
+use crate::heap::{granule, Answer, Family, Heap, ALL, NO_COMMIT};
 
 /// Three blocks to a page.
 const CLASS: u32 = 45;
+/// The pool's classes stand behind the heap's 76.
+const POOLS: usize = 76;
 /// Words of its row: PARTIAL and on.
 const PARTIAL: usize = 160 + 8 * 45;
 const EMPTY_COUNT: usize = PARTIAL + 2;
@@ -95,6 +97,96 @@ fn owner_and_first() {
     }
 }
 
+/// The pool's page, which its own class alone has: its OWNER is 77 and more.
+#[test]
+fn owner_of_a_pools_page() {
+    let opened = || {
+        let mut heap = Heap::open(8);
+        assert_eq!(heap.alloc(CLASS, ALL).map(|block| block.map(granule)), Ok(Some(3)));
+        for due in [1_027, 2_051] {
+            assert_eq!(heap.trim(CLASS, ALL).map(|block| block.map(granule)), Ok(Some(due)));
+        }
+        heap
+    };
+    let (owner, pools) = (page(0, 3_344), 77 + CLASS);
+    assert_eq!(opened().book[owner], pools);
+    with_on(opened(), owner, pools, false, |heap: &mut Heap| heap.alloc(CLASS, ALL));
+    for other in [0, 1 + CLASS, pools - 1, pools + 1, 153, u32::MAX] {
+        with_on(opened(), owner, other, true, |heap: &mut Heap| heap.alloc(CLASS, ALL));
+        let mut heap = opened();
+        heap.book[owner] = other;
+        let block = Family::Small.word(3);
+        assert_eq!((heap.free(CLASS, ALL, block), heap.granted(CLASS, block)), (Err(10), false));
+    }
+}
+
+/// The page that is held by hand, and no other.
+#[test]
+fn owner_of_a_page_held_by_hand() {
+    let owner = page(0, 3_344) + 2 * 4;
+    assert_eq!(scene().book[owner], 153);
+    for other in [0, 1, 76, 77, 152, 154, u32::MAX] {
+        let mut heap = scene();
+        heap.book[owner] = other;
+        assert_eq!((heap.release(ALL, 4, 1), heap.grow(ALL, 4, 1, 2)), (Err(12), Err(12)));
+    }
+}
+
+/// Of every page its class's number, the heap's and the pool's alike; nobody's page, the hand's and those above the frontier have none.
+#[test]
+fn the_class_of_a_page() {
+    let mut heap = scene();
+    let owner = page(0, 3_344);
+    let word = |page: u64| Family::Small.word(4_096 * page);
+    assert_eq!([0, 1, 2, 3, 4, 5].map(|page| heap.class_of(word(page))), [CLASS, CLASS, 76, 76, 76, 76]);
+    for (value, class) in [(0, 76), (1, 0), (76, 75), (77, 0), (152, 75), (153, 76), (u32::MAX, 76)] {
+        heap.book[owner] = value;
+        assert_eq!(heap.class_of(word(0)), class, "{value}");
+        // FRONTIER is 5.
+        heap.book[owner + 2 * 5] = value;
+        assert_eq!(heap.class_of(word(5)), 76, "{value}");
+    }
+    heap.book[owner] = 1;
+    for (frontier, class) in [(0, 76), (1, 0), (64, 0), (65, 76), (u32::MAX, 76)] {
+        heap.book[2] = frontier;
+        assert_eq!(heap.class_of(word(0)), class, "{frontier}");
+    }
+}
+
+/// COUNT of the pool's classes, and their last ENTRY, whose block ends within the arena.
+#[test]
+fn a_pools_stock() {
+    for (class, granules) in [(0, 1), (CLASS, 1_024), (63, 1_024), (64, 1_152), (75, 4_092)] {
+        let at = usize::try_from(class).expect("32 bits");
+        let opened = || {
+            let mut heap = Heap::open(64);
+            assert!(heap.alloc(class, ALL).is_ok_and(|block| block.is_some()));
+            heap
+        };
+        let (count, entry) = (775 + 8 * at, 10_240 + 256 * at);
+        let stocked = opened().stocked(class);
+        assert_eq!(opened().book[count], stocked);
+        for call in [Heap::alloc, Heap::trim] {
+            let call = |heap: &mut Heap| call(heap, class, ALL);
+            with_on(opened(), count, 255, false, call);
+            for value in [256, 257, u32::MAX] {
+                with_on(opened(), count, value, true, call);
+            }
+            let last = 64 * 4_096 - granules;
+            let top = entry + usize::try_from(stocked).expect("32 bits") - 1;
+            with_on(opened(), top, last, false, call);
+            for value in [last + 1, 64 * 4_096, u32::MAX] {
+                with_on(opened(), top, value, true, call);
+            }
+        }
+        for (value, due) in [(0, 0), (255, 255), (256, 0), (u32::MAX, 0)] {
+            let mut heap = opened();
+            heap.book[count] = value;
+            assert_eq!(heap.stocked(class), due, "{value}");
+        }
+    }
+}
+
 #[test]
 fn the_arenas_record() {
     up_to(1, 2, report);
@@ -106,7 +198,7 @@ fn the_arenas_record() {
 
 #[test]
 fn every_classs_counts_in_a_report() {
-    for class in 0..76 {
+    for class in 0..2 * POOLS {
         up_to(160 + 8 * class + 2, 256, report);
         up_to(160 + 8 * class + 4, 256, report);
     }
@@ -115,9 +207,9 @@ fn every_classs_counts_in_a_report() {
 #[test]
 fn holes_in_a_commit() {
     // Hole 0: two pages, which end at the frontier, 5.
-    with(1_025, 0, true, commit(1));
-    up_to(1_025, 2, commit(1));
-    up_to(1_024, 3, commit(1));
+    with(2_049, 0, true, commit(1));
+    up_to(2_049, 2, commit(1));
+    up_to(2_048, 3, commit(1));
 }
 
 #[test]
@@ -131,7 +223,7 @@ fn holes_in_a_take() {
     assert_eq!(asks(&mut heap), Ok((vec![10_243, 9_219, 8_195], true)));
     for (value, number) in [(2, None), (3, Some(13)), (0, Some(13))] {
         let mut heap = scene();
-        heap.book[1_025] = value;
+        heap.book[2_049] = value;
         assert_eq!(asks(&mut heap).err(), number);
     }
 }
@@ -143,14 +235,14 @@ fn holes_in_a_give() {
         [|heap| heap.release(ALL, 4, 1), |heap| heap.grow(NO_COMMIT, 4, 1, 2).map(drop)];
     for call in gives {
         // Hole 0: two pages from 2 on. The frontier is 5.
-        with(1_025, 0, true, call);
-        up_to(1_025, 3, call);
-        up_to(1_024, 3, call);
+        with(2_049, 0, true, call);
+        up_to(2_049, 3, call);
+        up_to(2_048, 3, call);
     }
     for value in [0, 4, u32::MAX] {
-        with(1_025, value, false, |heap: &mut Heap| heap.grow(ALL, 4, 1, 2));
+        with(2_049, value, false, |heap: &mut Heap| heap.grow(ALL, 4, 1, 2));
         // More than the arena has.
-        with(1_025, value, false, |heap: &mut Heap| heap.grow(NO_COMMIT, 4, 1, 61));
+        with(2_049, value, false, |heap: &mut Heap| heap.grow(NO_COMMIT, 4, 1, 61));
     }
 }
 
@@ -166,7 +258,7 @@ fn holes_in_a_classs_give() {
     let chunks = |heap: &mut Heap| heap.give_chunks(CLASS, &page, &[(3, 0)], 1);
     assert_eq!(give(&page)(&mut parking_none()), Ok(2));
     assert_eq!(chunks(&mut parking_none()), Ok(vec![6]));
-    for (word, fits) in [(1_025, 1..4), (1_024, 0..4)] {
+    for (word, fits) in [(2_049, 1..4), (2_048, 0..4)] {
         for value in [0, 1, 2, 3, 4, 904, u32::MAX] {
             with_on(parking_none(), word, value, !fits.contains(&value), give(&page));
             with_on(parking_none(), word, value, !fits.contains(&value), chunks);
@@ -180,7 +272,8 @@ fn holes_in_a_classs_give() {
 
 #[test]
 fn words_that_no_call_reads() {
-    for word in [12, 16, 16 + 3, 16 + 128, 159] {
+    // Of the heap's rows the last word, which the pool's rows have COUNT in; words behind the rows, and behind the entries.
+    for word in [13, 16, 16 + 3, 16 + 128, 159, 167 + 8 * 45, 1_376, 2_047, 29_696, 39_999] {
         with(word, u32::MAX, false, commit(3));
         with(word, u32::MAX, false, take);
         with(word, u32::MAX, false, report);
@@ -256,7 +349,12 @@ fn a_medium_classs_limits() {
 /// The limits stand in the class's row: document 01's where no rows are given, else each row's.
 #[test]
 fn limits_in_the_book() {
-    let words = |heap: &Heap, class: usize| [heap.book[160 + 8 * class + 5], heap.book[160 + 8 * class + 6]];
+    // The heap's class and the pool's of a number have the same.
+    let words = |heap: &Heap, class: usize| {
+        let [heaps, pools] = [class, POOLS + class].map(|class| [5, 6].map(|word| heap.book[160 + 8 * class + word]));
+        assert_eq!(heaps, pools);
+        heaps
+    };
     let heap = Heap::open(1);
     assert!(
         (0..64).all(|class| words(&heap, class) == [4, 256]) && (64..76).all(|class| words(&heap, class) == [32, 256])

@@ -1,8 +1,8 @@
 -- The words of a class (document 02, A.14). n is the arena's length, b the book, sh the class's shape, c its id.
 --     footprint n b sh c i    word i of the book is the class's: it stands in the class's row, or it is a word of a page at which a run of the
 --                             class begins
--- A call on the class that does not reach the arena reads and writes these words and no others, but for its tests: they also look at LENGTH
--- and FRONTIER and at who holds the page of a listed block, and find the same there whatever calls on other classes were made, since
+-- A call on the class that does not reach the arena reads and writes these words and no others, but for its tests: they also look at LENGTH,
+-- FORMAT and FRONTIER and at who holds the page of a listed block, and find the same there whatever calls on other classes were made, since
 -- none of these takes a page of this class or makes one. A call on another class, also one that reaches the arena, keeps to the words that
 -- are not this class's.
 -- A word of OWNER at or above FRONTIER may hold anything, and so does not make its page the class's; `whole` says what does.

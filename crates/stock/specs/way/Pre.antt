@@ -1,11 +1,11 @@
--- What the pool's functions ask of their callers. n is the arena's length, c a class's id, g a granule, p a page, w a block's word, k the blocks in stock.
+-- What the pool's functions ask of their callers. n is the arena's length, c a class's number, g a granule, p a page, w a block's word, k the blocks in stock.
 use Prim.Native.Nat.{ℕ, _*_, _≤_, _<_}
 use mathlib.Core.Bool.{false}
 use mathlib.Core.List.{List}
 use mathlib.Core.Path.{_≡_}
 use lib.ListN.{length, getD}
 use Rattle.words.specs.Word.{kindOf, granuleOf}
-use Rattle.classes.specs.Shape.{classCount, shapeOf}
+use Rattle.classes.specs.Shape.{classCount, shapeOf, poolId}
 use Rattle.fields.specs.Field.{words}
 use Rattle.fields.specs.Ranges.{maxPages}
 use Rattle.poolcalls.specs.Stock.{countIn, stocked}
@@ -61,7 +61,7 @@ pub record NearPre (n : ℕ) (b : List ℕ) (c g w : ℕ) : Type 0 where
   pub long : words n ≤ length b
   pub low : g < 4096 * n
   pub granule : g ≡ granuleOf w
-  pub kind : kindOf w ≡ shapeOf c .kind
+  pub kind : kindOf w ≡ shapeOf (poolId c) .kind
 
 -- and not in stock
 pub record FreePre (n : ℕ) (b : List ℕ) (c g w : ℕ) : Type 0 where
@@ -70,5 +70,5 @@ pub record FreePre (n : ℕ) (b : List ℕ) (c g w : ℕ) : Type 0 where
   pub long : words n ≤ length b
   pub low : g < 4096 * n
   pub granule : g ≡ granuleOf w
-  pub kind : kindOf w ≡ shapeOf c .kind
+  pub kind : kindOf w ≡ shapeOf (poolId c) .kind
   pub away : stocked b c g ≡ false

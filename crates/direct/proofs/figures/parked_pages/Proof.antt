@@ -6,7 +6,7 @@ abbrev Inv-loop : f.Tie.InvT-loop
 Inv-loop meta sum₀ c₀ sum c = ParkedInv meta sum c
 
 abbrev μ-loop : f.Tie.MeasureT-loop
-μ-loop meta sum₀ c₀ sum c = 76 - c
+μ-loop meta sum₀ c₀ sum c = 152 - c
 
 pub parked-pages-spec : {M : Type 1} → f.Statement.statement M
 parked-pages-spec =

@@ -6,7 +6,7 @@ abbrev Inv-loop : f.Tie.InvT-loop
 Inv-loop meta₀ i₀ meta i = Clearing meta₀ meta i
 
 abbrev μ-loop : f.Tie.MeasureT-loop
-μ-loop meta₀ i₀ meta i = 768 - i
+μ-loop meta₀ i₀ meta i = 1376 - i
 
 pub clear-head-spec : {M : Type 1} → f.Statement.statement M
 clear-head-spec =

@@ -7,4 +7,4 @@ unfolding opened
 returns c = cc
 
 pub open-spec : {M : Type 1} → f.Statement.statement M
-open-spec = f.Tie.close (f.Tie.spec (λ c κs. search needs) (λ c κs. search needs) (λ c κs. search needs) (λ c. search needs) returns)
+open-spec = f.Tie.close (f.Tie.spec (λ c κs. search needs) (λ c κs. search needs) (λ c κs. search needs) (λ c κs. search needs) (λ c. search needs) returns)

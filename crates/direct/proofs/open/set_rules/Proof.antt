@@ -6,7 +6,7 @@ abbrev Inv-loop : f.Tie.InvT-loop
 Inv-loop meta₀ rows c₀ meta c = Ruling meta₀ rows meta c
 
 abbrev μ-loop : f.Tie.MeasureT-loop
-μ-loop meta₀ rows c₀ meta c = 76 - c
+μ-loop meta₀ rows c₀ meta c = 152 - c
 
 pub set-rules-spec : {M : Type 1} → f.Statement.statement M
 set-rules-spec =

@@ -6,7 +6,7 @@ returns : f.Tie.Need-returns
 returns c = small-pages _ _ _ (c .before .before .shape-of .ensures) (omega arith)
 
 returns-2 : f.Tie.Need-returns-2
-returns-2 c = medium-pages _ _ _ (c .before .before .shape-of .ensures) (omega arith)
+returns-2 c = medium-pages _ _ _ (c .before .before .shape-of .ensures) (omega arith) (omega arith)
 
 pub pages-for-spec : {M : Type 1} → f.Statement.statement M
 pages-for-spec =

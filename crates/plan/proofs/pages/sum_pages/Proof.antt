@@ -13,6 +13,6 @@ sum-pages-spec =
     f.Tie.close
     (f.Tie.spec
     Inv-loop μ-loop (λ c. search sum-start) (λ c. search needs) (λ c. search needs) (λ c. search needs)
-    (λ c κs. c .before .before .before .pre (c .before .before .loop .c) (omega arith))
+    (λ c κs. (omega arith, c .before .before .before .pre (c .before .before .loop .c) (omega arith)))
     (λ c. omega (arith, c .before .before .before .before .pre (c .before .before .before .loop .c) (omega arith)))
     (λ c. search needs) (λ c. search needs) (λ c. search sum-next) (λ c. sum-end _ _ _ (c .before .loop .inv) (omega arith)))

@@ -1,4 +1,4 @@
-use Rattle.release.proofs.ValidSteps.{above-arena, destination-pre, destination-last, no-row, no-page}
+use Rattle.release.proofs.ValidSteps.{wrong-head, destination-pre, destination-last, no-row, no-page}
 use borrow.Author.Needs.{needs}
 use Rattle.release.proofs.valid.release_valid as f
 
@@ -11,5 +11,5 @@ pub release-valid-spec : {M : Type 1} → f.Statement.statement M
 release-valid-spec =
     f.Tie.close
     (f.Tie.spec
-    (λ c κs. search needs) (λ c. search above-arena) (λ c κs. search needs) (λ c κs. search needs) destination-valid-requires (λ c. search destination-last)
+    (λ c κs. search needs) (λ c. search wrong-head) (λ c κs. search needs) (λ c κs. search needs) destination-valid-requires (λ c. search destination-last)
     (λ c. search no-row) (λ c. search no-page))

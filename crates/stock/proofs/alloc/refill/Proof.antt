@@ -2,6 +2,9 @@ use Rattle.stock.proofs.AllocSteps.{take-asks, took-pre, refill-refused
 use borrow.Author.Needs.{needs}
 use Rattle.stock.proofs.alloc.refill as f
 
+pool-id-requires : f.Tie.Need-pool-id-requires
+pool-id-requires c κs = search needs
+
 slice-aggregate-take-call : f.Tie.Need-slice-aggregate-take-call
 slice-aggregate-take-call c = search needs
 
@@ -36,6 +39,7 @@ pub refill-spec : {M : Type 1} → f.Statement.statement M
 refill-spec =
     f.Tie.close
     (f.Tie.spec
+    pool-id-requires
     slice-aggregate-take-call
     take-call-requires
     enum-known-k

@@ -2,6 +2,9 @@ use Rattle.stock.proofs.GiveSteps.{class-pre-of, released-one, list-pre
 use borrow.Author.Needs.{needs}
 use Rattle.stock.proofs.give.give as f
 
+pool-id-requires : f.Tie.Need-pool-id-requires
+pool-id-requires c κs = search needs
+
 release-one-requires : f.Tie.Need-release-one-requires
 release-one-requires c κs = search class-pre-of
 
@@ -39,6 +42,7 @@ pub give-spec : {M : Type 1} → f.Statement.statement M
 give-spec =
     f.Tie.close
     (f.Tie.spec
+    pool-id-requires
     release-one-requires
     same-length
     returns

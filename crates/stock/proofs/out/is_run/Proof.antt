@@ -8,6 +8,9 @@ frontier-requires c κs = search needs
 returns : f.Tie.Need-returns
 returns c = search page-past
 
+pool-id-requires : f.Tie.Need-pool-id-requires
+pool-id-requires c κs = search needs
+
 owner-requires : f.Tie.Need-owner-requires
 owner-requires c κs = search needs
 
@@ -26,4 +29,12 @@ returns-3 c = search page-own
 pub is-run-spec : {M : Type 1} → f.Statement.statement M
 is-run-spec =
     f.Tie.close
-    (f.Tie.spec frontier-requires returns owner-requires add-if2 returns-2 first-requires returns-3)
+    (f.Tie.spec
+    frontier-requires
+    returns
+    pool-id-requires
+    owner-requires
+    add-if2
+    returns-2
+    first-requires
+    returns-3)

@@ -3,6 +3,9 @@ use Rattle.stock.proofs.OutSteps.{out-nowhere, out-block}
 use borrow.Author.Needs.{needs}
 use Rattle.stock.proofs.out.out_at as f
 
+pool-id-requires : f.Tie.Need-pool-id-requires
+pool-id-requires c κs = search needs
+
 shape-of-requires : f.Tie.Need-shape-of-requires
 shape-of-requires c κs = search needs
 
@@ -25,6 +28,7 @@ pub out-at-spec : {M : Type 1} → f.Statement.statement M
 out-at-spec =
     f.Tie.close
     (f.Tie.spec
+    pool-id-requires
     shape-of-requires
     find-out-requires
     enum-told

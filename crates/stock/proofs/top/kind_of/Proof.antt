@@ -8,4 +8,8 @@ returns-2 : f.Tie.Need-returns-2
 returns-2 c = search kind-medium
 
 pub kind-of-spec : {M : Type 1} → f.Statement.statement M
-kind-of-spec = f.Tie.close (f.Tie.spec returns returns-2)
+kind-of-spec =
+    f.Tie.close
+    (f.Tie.spec
+    returns
+    returns-2)
