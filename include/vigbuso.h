@@ -6,7 +6,7 @@
  *
  * The book is a slice of 32-bit words that the caller lends to every call: a pointer, then a length in words of at least
  * VIGBUSO_BOOK_WORDS(pages). The heap keeps all that it knows there and nothing elsewhere. It never reads or writes the
- * arena's bytes, so they may stand anywhere. A book that was never opened, or by an archive of another layout, is refused: as 13 where
+ * arena's bytes, so they may stand anywhere. A book that was never opened, or opened by an archive of another layout, is refused: as 13 where
  * no earlier number applies.
  *
  * Blocks in batches (takes and releases), blocks one by one (the pool) and pages by hand (vigbuso_commit) may be mixed on one book in
@@ -132,7 +132,7 @@ enum vigbuso_kind { VIGBUSO_NONE = 0, VIGBUSO_SMALL = 1, VIGBUSO_MEDIUM = 2, VIG
 enum vigbuso_fate { VIGBUSO_KEPT = 0, VIGBUSO_COLD = 1, VIGBUSO_TO_ARENA = 2, VIGBUSO_RETIRED = 4 };
 
 /* Numbers of refusals, in checking order; vigbuso_refusal_text says what each means. 13 stands twice in that order: in a release by list or
- * by chunks a word of marks that is not 0 comes between 9 and 15, every other book word last, the book's format among them. */
+ * by chunks a word of marks that is not 0 comes between 9 and 15, every other book word last, the book's format among them (a trim tests the format, COUNT and its top entry before 10). */
 enum vigbuso_refusal {
     VIGBUSO_E_ARENA_LENGTH = 1,
     VIGBUSO_E_BOOK_TOO_SHORT = 2,

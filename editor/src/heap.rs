@@ -352,7 +352,7 @@ impl<B: AsRef<[u32]> + AsMut<[u32]>> Heap<B> {
     ///
     /// # Errors
     ///
-    /// None on a book that only this heap has written; [`Refusal::BookWord`] on a damaged one.
+    /// None on a book that only this heap and its pool have written; [`Refusal::BookWord`] on a damaged one.
     pub fn take(&mut self, class: Class) -> Result<Taken, Refusal> {
         self.take_with(self.host, class)
     }
@@ -640,7 +640,7 @@ impl<B: AsRef<[u32]> + AsMut<[u32]>> Heap<B> {
     ///
     /// # Errors
     ///
-    /// None on a book that only this heap has written; [`Refusal::BookWord`] on a damaged one.
+    /// None on a book that only this heap and its pool have written; [`Refusal::BookWord`] on a damaged one.
     pub fn report(&self) -> Result<Report, Refusal> {
         ffi::report(self.book.as_ref())
     }

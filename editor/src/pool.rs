@@ -361,7 +361,7 @@ impl<B: AsRef<[u32]> + AsMut<[u32]>> Pool<B> {
     ///
     /// # Errors
     ///
-    /// None on a book that only this pool has written. On a damaged one the first refusal; what was not refused is back nevertheless.
+    /// None on a book that only this pool and its heap have written. On a damaged one the first refusal; what was not refused is back nevertheless.
     pub fn flush(&mut self) -> Result<(), Refusal> {
         self.heap.flush()
     }
@@ -433,7 +433,7 @@ impl<B: AsRef<[u32]> + AsMut<[u32]>> Pool<B> {
     /// block that a take has handed out; nothing changes then.
     ///
     /// A take or a commit here leaves the pool's stocks alone. Where it answers none, a [`flush`](Pool::flush) may give it pages.
-    /// [Opened anew](Heap::reopen), the heap forgets the pool's blocks with all others.
+    /// [Opened anew](Heap::reopen), the heap forgets the pool's blocks with all others, and pool and heap have the parking rules given then.
     ///
     /// ```
     /// # use vigbuso::{Class, Pool, Refusal};
@@ -564,7 +564,7 @@ impl<B: AsRef<[u32]> + AsMut<[u32]>> Pool<B> {
         self.heap.release_run(run)
     }
 
-    /// The blocks in stock. A page that has none of them and none granted is parked, or the arena has it back.
+    /// The blocks in stock. A page of the pool's that has none of them and none granted is parked, or the arena has it back.
     ///
     /// ```
     /// # use vigbuso::Pool;

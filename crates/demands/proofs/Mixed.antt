@@ -1,7 +1,7 @@
 -- The statement over mixed histories holds of every history of the exported calls, on the words: first from an opening (`at-opening`), then from a trace, which is
 -- an opening with what the trace did in front.
-use Rattle.facts.proofs.Prelude.{ℕ, zero, suc, _+_, _≤_, _<_, arith, true, false, true≢false, List, [], _∷_, _++_, map, reverse, append-assoc, head-eq-of-cons-eq, tail-eq-of-cons-eq}
-use Rattle.facts.proofs.Prelude.{_↔_, inl, inr, none, some, _≡_, refl, sym, ap, ap₂, _∙_, subst, eqb, ltb, length, replicate, lt-ltb, ltb-true, le-leb, not-true, All, elem}
+use Rattle.facts.proofs.Prelude.{ℕ, zero, suc, _+_, _≤_, _<_, arith, true, false, cond, not, true≢false, false≢true, List, [], _∷_, _++_, map, reverse, append-assoc, head-eq-of-cons-eq, tail-eq-of-cons-eq}
+use Rattle.facts.proofs.Prelude.{_↔_, inl, inr, none, some, _≡_, refl, sym, ap, ap₂, _∙_, subst, eqb, ltb, length, replicate, eq-eqb, ne-eqb, eqb-true, eqb-false, lt-ltb, ltb-true, le-leb, not-true, isNil, every, All, elem}
 use Rattle.facts.proofs.Prelude.{distinct, by-cases, and-left, and-right}
 use Rattle.words.specs.Host.{badHost, hostMax}
 use Rattle.words.specs.Limits.{classRows}
@@ -19,7 +19,7 @@ use Rattle.model.specs.Calls.{Call, Answer, giveBack, pooledTake, pooledRelease
 use Rattle.model.specs.Release.{ofKind, outHere}
 use Rattle.model.specs.Heap.{Heap, Holder, nobody, direct, class, newHeap, step, badRun}
 use Rattle.model.specs.History.{Event, events, heapAfter}
-use Rattle.model.specs.Entries.{OutIn, directAfter}
+use Rattle.model.specs.Entries.{OutIn, AllOut, directAfter}
 use Rattle.model.specs.Offered.{HasRun}
 use Rattle.model.proofs.Theorems.{outs}
 use Rattle.arena.specs.Load.{loadArena}
@@ -62,21 +62,21 @@ use Rattle.poolrefinement.proofs.Runs.{stands}
 use Rattle.demands.specs.Call.{call}
 use Rattle.demands.specs.Run.{Opens, bookAfter, observed}
 use Rattle.demands.specs.Start.{Start, Starts, pages, ruleRows, rules, lent, begun, did}
-use Rattle.demands.specs.Returns.{ListOut, ChunksOut}
+use Rattle.demands.specs.Returns.{Twice, ListOut, Plain, ChunksOut}
 use Rattle.demands.specs.Mixed as Statement
 use Rattle.demands.specs.Mixed.{poolCall, recorded, mixedBook, mixedCalls, mixedAnswers, mixedRecorded, mixedObserved, Leaves, HasRoom, AllocAnswers, FreeAnswers, TrimAnswers, MixedAt, MixedDemand}
 use Rattle.demands.proofs.Calls.{room, no-fault, call-is}
 use Rattle.demands.proofs.Histories.{run-represents}
 use Rattle.demands.proofs.Observed.{bare, bare-live, live-bare, bare-direct, bare-disjoint, bare-iso, observed-out, out-observed, observed-direct}
 use Rattle.demands.proofs.Starts.{begun-is}
-use Rattle.demands.proofs.Returns.{list-returns}
-use Rattle.demands.proofs.ChunkReturns.{chunks-return}
+use Rattle.demands.proofs.Returns.{list-returns, not-out}
+use Rattle.demands.proofs.ChunkReturns.{chunks-return, chunks-not-out}
 use Rattle.demands.proofs.Held.{held-releases, held-grows}
 use Rattle.demands.proofs.PoolRuns.{openRun, openBook, openRecorded, openObserved, ask-is, run-is, pool-rep, observed-is}
 use Rattle.demands.proofs.PoolQuery.{owner-number, stocked-rep, few-rep}
 use Rattle.demands.proofs.Codes.{code-exactly}
 use Rattle.demands.proofs.Plain.{did-plain, names-plain}
-use Rattle.demands.proofs.Moves.{list-moves, chunks-moves}
+use Rattle.demands.proofs.Moves.{all-moves, list-moves, chunks-moves}
 use Rattle.demands.proofs.Holders.{run-holder, holder-run, holder-low, held-below, frontier-low}
 
 -- a block out, told with and without the runs
@@ -85,6 +85,42 @@ out-bare vs c w o = record { entry = o .entry; live = live-bare 0 vs (o .entry) 
 
 bare-out : (vs : List Event) (c w : ℕ) → OutIn (bare vs) c w → OutIn vs c w
 bare-out vs c w o = record { entry = o .entry; live = bare-live 0 vs (o .entry) (o .live); class = o .class; word = o .word }
+
+-- lists in which nothing stands twice, with the same members, are of one length
+abbrev without : ℕ → List ℕ → List ℕ
+without x [] = []
+without x (y ∷ ys) = cond (eqb x y) (without x ys) (y ∷ without x ys)
+
+without-elem : (x w : ℕ) (ys : List ℕ) → eqb w x ≡ false → elem w ys ≡ true → elem w (without x ys) ≡ true
+without-elem x w [] ne m = m
+without-elem x w (y ∷ ys) ne m =
+    by-cases (eqb x y)
+    (λ e. rw e (without-elem x w ys ne (rw (ne-eqb w y (λ z. eqb-false w x ne (z ∙ sym (eqb-true x y e)))) at m)))
+    (λ e. rw e (by-cases (eqb w y) (λ t. rw t) (λ t. rw t (without-elem x w ys ne (rw t at m)))))
+
+without-length : (x : ℕ) (ys : List ℕ) → elem x ys ≡ true → length (without x ys) < length ys
+without-length x [] m = absurd (false≢true m)
+without-length x (y ∷ ys) m =
+    by-cases (eqb x y)
+    (λ e. rw e (omega (arith, without-most x ys)))
+    (λ e. rw e (omega (arith, without-length x ys (rw e at m))))
+  where
+    without-most : (x : ℕ) (ys : List ℕ) → length (without x ys) ≤ length ys
+    without-most x [] = omega arith
+    without-most x (y ∷ ys) = by-cases (eqb x y) (λ e. rw e (omega (arith, without-most x ys))) (λ e. rw e (omega (arith, without-most x ys)))
+
+members-few : (s t : List ℕ) → distinct s ≡ true → ((w : ℕ) → elem w s ≡ true → elem w t ≡ true) → length s ≤ length t
+members-few [] t d h = omega arith
+members-few (x ∷ s) t d h =
+    let here : elem x (x ∷ s) ≡ true = rw (eq-eqb x x refl) in
+    let less = without-length x t (h x here) in
+    let apart = not-true (elem x s) (and-left (not (elem x s)) _ d) in
+    let rest = members-few s (without x t) (and-right (not (elem x s)) _ d)
+    (λ w m. let ne = ne-eqb w x (λ z. true≢false (sym m ∙ subst (λ (v : ℕ). elem v s ≡ false) (sym z) apart)) in without-elem x w t ne (h w (rw (ne, m)))) in
+    omega arith
+
+members-length : (s t : List ℕ) → distinct s ≡ true → distinct t ≡ true → ((w : ℕ) → (elem w s ≡ true) ↔ (elem w t ≡ true)) → length s ≡ length t
+members-length s t d e h = omega (arith, members-few s t d (λ w. h w .0), members-few t s e (λ w. h w .1))
 
 -- two books that stand for one heap answer every history alike
 module _ (n : ℕ) (some-pages : 1 ≤ n) (few-pages : n ≤ maxPages) (rules : Rules) where
@@ -350,6 +386,23 @@ module _ (n : ℕ) (rows b : List ℕ) (o : Opens n rows b) (xs : List PoolCall)
         (λ l. g .1 (f .1 (m .1 l))),
       )
 
+  twice-moves : (c : ℕ) → ltb c classCount ≡ true → (ws : List ℕ) → Twice (observed n rows b made) c ws → Twice (openObserved n rows b xs) c ws
+  twice-moves c hc ws t = record { word = t .word; out = entry-is c (t .word) hc .0 (t .out); times = t .times }
+
+  not-out-here : (c : ℕ) (x : Call) (h : ℕ) (ws : List ℕ) → isPooled x ≡ false → names x ≡ some (record { class = c; request = giveBack h ws }) → h ≤ hostMax
+      → isNil ws ≡ false → every (ofKind (shapeOf c .kind)) ws ≡ true → (Twice (openObserved n rows b xs) c ws → ⊥) → (AllOut (openObserved n rows b xs) c ws → ⊥) → call d x .answer ≡ Calls.refused 10
+  not-out-here c x h ws p e ok filled kinds nt na =
+      let hc = names-plain x _ p e in
+      same-answer x
+      ∙ not-out n rows b o made c x h ws ok e filled kinds (λ t. nt (twice-moves c hc ws t)) (λ a. na (all-moves (λ w. entry-is c w hc) ws .0 a))
+
+  no-groups : (c h : ℕ) (ws gs fs : List ℕ) → c < 64 → Plain c h ws gs fs → (Twice (openObserved n rows b xs) c ws → ⊥) → (AllOut (openObserved n rows b xs) c ws → ⊥)
+      → call d (Calls.releaseBinChunks c h ws gs fs) .answer ≡ Calls.refused 10
+  no-groups c h ws gs fs low plain nt na =
+      let hc = lt-ltb c classCount (omega arith) in
+      same-answer (Calls.releaseBinChunks c h ws gs fs)
+      ∙ chunks-not-out n rows b o made c h ws gs fs low plain (λ t. nt (twice-moves c hc ws t)) (λ a. na (all-moves (λ w. entry-is c w hc) ws .0 a))
+
   hand : (h q m : ℕ) → h ≤ hostMax → badRun m ≡ false → (call d (Calls.release h q m) .code ≡ 0) ↔ ((k : ℕ) → k < m → directAfter (openObserved n rows b xs) (q + k) ≡ true)
   hand h q m ok r =
       let f = held-releases n rows b o made h q m ok r in
@@ -425,6 +478,8 @@ module _ (n : ℕ) (rows b : List ℕ) (o : Opens n rows b) (xs : List PoolCall)
         apart = rw (observed-is n rows b o xs) (bare-iso n vs (apart .iso));
         releases = releases;
         groups = groups;
+        notOut = not-out-here;
+        notOutGroups = no-groups;
         hand = hand;
         growth = growth;
         host = λ c x e. answer-is c x ∙ unchanged n few (rulesOf rows) xs c x .host e;
@@ -434,6 +489,7 @@ module _ (n : ℕ) (rows b : List ℕ) (o : Opens n rows b) (xs : List PoolCall)
         trims = trim-answers;
         numbers = λ c x k e. unchanged n few (rulesOf rows) xs c x .low k (sym (answer-is c x) ∙ e);
         valid = λ y e. call-whole n few (rulesOf rows) made d heap y .valid (ap (λ r. r .code) (sym (call-reply y)) ∙ e);
+        arena = heap .arena .loads;
         made-done = on-heap n few (rulesOf rows) xs .done;
         entries = λ c w hc. let u = on-heap n few (rulesOf rows) xs .out c w hc in ((λ e. out-in c w (u .0 e)), (λ e. u .1 (in-out c w e)));
         out = λ c w hc.
@@ -447,6 +503,14 @@ module _ (n : ℕ) (rows b : List ℕ) (o : Opens n rows b) (xs : List PoolCall)
         once = λ c hc. ap distinct (stock-is c hc) ∙ cons .once c;
         granted = granted-observed;
         stocked = stocked-is-length;
+        stockedOut = λ c hc ws once told. stocked-is-length c hc ∙ members-length (stockIn d c) ws (ap distinct (stock-is c hc) ∙ cons .once c) once (λ w.
+            let u = outs n (rulesOf rows) made .out (poolId c) w in
+            let sh = shapeOf (poolId c) in
+            let same : outHere sh (P .heap .classes (poolId c)) w ≡ outHere sh (heapAfter n (rulesOf rows) made .classes (poolId c)) w = ap (λ (G : Heap). outHere sh (G .classes (poolId c)) w) pool-heap in
+            let at = ap (elem w) (stock-is c hc) in (
+              (λ m. told w .1 (u .0 (sym same ∙ cons .out c w .1 (inr (sym at ∙ m))), (λ v. true≢false (sym m ∙ at ∙ cons .either c w (in-out (poolId c) w v))))),
+              (λ m. let t = told w .0 m in elim (cons .out c w .0 (same ∙ u .1 (t .0))) [ inl v ↦ absurd (t .1 (out-in (poolId c) w v)) | inr e ↦ at ∙ e ]),
+            ));
         few = λ c hc. few-rep n d c (P .stock c) (rep .stocks c hc);
         class = class-told;
         classless = class-none;

@@ -1,6 +1,6 @@
 -- What a caller sees of the exported functions is what `poolCall` says (specs/PoolContracts).
 --     pool-observes-call    of one function
---     pool-in-turn          of calls in turn
+--     pool-in-turn          of calls in turn; mixed-in-turn, behind a start
 use Rattle.facts.proofs.Prelude.{ℕ, zero, suc, _-_, _≤_, _<_, arith, Bool, true, false, cond, not, _||_, List, [], _∷_, _++_, map}
 use Rattle.facts.proofs.Prelude.{Option, none, some, _≡_, refl, ap, ap₂, _∙_, eqb, ltb, length, getD, ne-eqb, eqb-false, All, by-cases}
 use Rattle.classes.specs.Shape.{shapeOf, classCount, poolId}
@@ -26,12 +26,13 @@ use Rattle.poolcalls.specs.Calls.{PoolReply, poolReply, codeOf, blockOut, count
 use Rattle.vigbuso.specs.Faults.{classFault}
 use Rattle.vigbuso.specs.Pool.{poolOn}
 use Rattle.refinement.specs.Direct.{Reply}
-use Rattle.poolrefinement.specs.Run.{poolAnswersFrom}
+use Rattle.poolrefinement.specs.Run.{poolAnswersFrom, bookFrom}
 use Rattle.demands.specs.Contracts.{Observes}
 use Rattle.demands.specs.Contracts as Contracts
 use Rattle.demands.specs.Mixed.{poolCall}
-use Rattle.demands.specs.PoolContracts.{blockObserved, freeObserved, PoolObserves, alloc, free, trim, heap, PoolInTurn, ends, calls}
+use Rattle.demands.specs.PoolContracts.{blockObserved, freeObserved, PoolObserves, alloc, free, trim, heap, PoolInTurn, ends, calls, leftBy, MixedInTurn}
 use Rattle.demands.proofs.Contracts.{observes-call}
+use Rattle.demands.proofs.Starts.{begins}
 
 -- ---- the words that a take answers, on any book: none is 0, since each has its class's kind
 abbrev Some : ℕ → Type 0
@@ -212,3 +213,16 @@ pub pool-in-turn : {b : List ℕ} {xs : List PoolCall} {ss : List PoolReply} →
 pool-in-turn (ends b) = refl
 pool-in-turn (calls b x s xs ss p t) =
     ap₂ (λ (a : PoolAnswer) (zs : List PoolAnswer). a ∷ zs) (ap (λ (v : PoolReply). v .answer) (pool-observes-call p)) (pool-in-turn t ∙ ap (λ (v : PoolReply). poolAnswersFrom poolCall (v .book) xs) (pool-observes-call p))
+
+in-turn-book : {b : List ℕ} {xs : List PoolCall} {ss : List PoolReply} → PoolInTurn b xs ss → leftBy b ss ≡ bookFrom poolCall b xs
+in-turn-book (ends b) = refl
+in-turn-book (calls b x s xs ss p t) = in-turn-book t ∙ ap (λ (v : PoolReply). bookFrom poolCall (v .book) xs) (pool-observes-call p)
+
+pub mixed-in-turn : MixedInTurn
+mixed-in-turn s b′ xs ss d t =
+    let g = begins d in
+    record {
+      starts = g .0;
+      answers = pool-in-turn t ∙ ap (λ (m : List ℕ). poolAnswersFrom poolCall m xs) (g .1);
+      book = in-turn-book t ∙ ap (λ (m : List ℕ). bookFrom poolCall m xs) (g .1);
+    }

@@ -1,5 +1,5 @@
 -- One call on any book, by the definitions that the contracts of the exported functions cite (crate vigbuso): the refusal's number or
--- 0, the answer as document 01 counts it, the book afterwards. Each call of the model goes to the function of its name. Assumes
+-- 0, the answer as document 01 counts it, the book afterwards. Each call of the model goes to the function of its name; the two pooled ones to the same definitions with the pool's ids, for no function has them. Assumes
 -- nothing.
 --     call    vigbuso_take_blocks, vigbuso_medium_take_blocks, vigbuso_release_blocks, vigbuso_medium_release_blocks,
 --             vigbuso_release_bin_chunks, vigbuso_commit, vigbuso_grow_frontier, vigbuso_release, vigbuso_contains, vigbuso_report

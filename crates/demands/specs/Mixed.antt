@@ -1,11 +1,11 @@
--- One history of everything that a program can call on a book: takes and releases, small and medium, group releases, direct commits, growths and `release`s,
--- `contains`, reports, allocs, frees and trims, refused ones included, in any order, from an opening or a trace. Told from calls and answers, from the
+-- One history of every call by which a program can change a book: takes and releases, small and medium, group releases, direct commits, growths and `release`s,
+-- `contains`, reports, allocs, frees and trims, refused ones included, in any order, from an opening or a trace; what the calls that only read tell behind it. Told from calls and answers, from the
 -- book that the history leaves, and, where the heap is spoken of, from the heap calls that were made. proofs/Mixed proves it.
 --     poolCall        one call on any book, by the definitions that the exported functions' contracts cite
 --     mixedBook       the book that a history leaves
 --     mixedObserved   the calls with their answers, in the words of document 01's histories: an alloc is a take of one block in the pool's class (`poolId`), a free
 --                     a release of one. So an entry is a place below the count of a take's answer, or an alloc's grant
---     MixedAt         what holds after every history; MixedDemand, and of whole histories
+--     MixedAt         what holds after every history; MixedDemand, that, and what compares whole histories
 use Prim.Native.Nat.{ℕ, suc, _+_, _*_, _≤_, _<_}
 use mathlib.Core.Path.{_≡_}
 use mathlib.Core.Logic.{_⊎_, _↔_}
@@ -14,7 +14,7 @@ use mathlib.Core.Option.{none, some}
 use mathlib.Core.Bool.{true, false, cond}
 use lib.Dec.{ltb}
 use lib.ListN.{length, replicate}
-use Rattle.facts.specs.Lists.{All, elem, distinct}
+use Rattle.facts.specs.Lists.{All, isNil, every, elem, distinct}
 use Rattle.words.specs.Host.{badHost, hostMax}
 use Rattle.words.specs.Limits.{classRows}
 use Rattle.classes.specs.Sizes.{granuleBytes}
@@ -26,8 +26,8 @@ use Rattle.model.specs.Calls.{Call, names, giveBack, pooledTake, pooledRelease,
 use Rattle.model.specs.Arena as Arenas
 use Rattle.model.specs.Release.{ofKind}
 use Rattle.model.specs.Heap.{badRun}
-use Rattle.model.specs.History.{Event, events}
-use Rattle.model.specs.Entries.{OutIn, directAfter}
+use Rattle.model.specs.History.{Event, events, heapAfter}
+use Rattle.model.specs.Entries.{OutIn, AllOut, directAfter}
 use Rattle.model.specs.Offered.{Spent, HasRun}
 use Rattle.model.specs.Demands.{Disjoint, IsoDisjoint}
 use Rattle.arena.specs.Load.{loadArena}
@@ -43,10 +43,10 @@ use Rattle.refinement.specs.Run.{repliesFrom, answersIn}
 use Rattle.demands.specs.Call.{call}
 use Rattle.demands.specs.Run as Opening
 use Rattle.demands.specs.Start.{Start, Starts, pages, ruleRows, rules, lent, begun, did}
-use Rattle.demands.specs.Returns.{ListOut, ChunksOut}
+use Rattle.demands.specs.Returns.{Twice, ListOut, Plain, ChunksOut}
 
 -- ---- histories
--- no function has a pooled call: it names no class that a caller has
+-- no function makes a pooled call by itself: as a caller's own it counts as refused by 4, for it names no class that a caller has
 unfoldable pub poolCall : List ℕ → PoolCall → PoolReply
 poolCall b (to c x) = poolOn b c x
 poolCall b (heap x) = cond (isPooled x) (poolReply (answered (Calls.refused 4)) b) (poolReply (answered (call b x .answer)) (call b x .book))
@@ -73,7 +73,7 @@ mixedRecorded s xs = recorded (mixedCalls s xs) (mixedAnswers s xs)
 abbrev pub mixedObserved : Start → List PoolCall → List Event
 mixedObserved s xs = observedOf (mixedRecorded s xs)
 
--- the heap's calls that were made, a request's own among them
+-- the heap's calls that were made, a request's own among them, worked out by the rules on values from the arguments of all calls (`poolStep`)
 abbrev pub made : Start → List PoolCall → List Call
 made s xs = heapCalls (pages s) (rules s) (mixedCalls s xs)
 
@@ -82,7 +82,7 @@ made s xs = heapCalls (pages s) (rules s) (mixedCalls s xs)
 abbrev pub HeapAlike : List ℕ → List ℕ → Type 0
 HeapAlike d e = (ys : List Call) → answersIn (repliesFrom call d ys) ≡ answersIn (repliesFrom call e ys)
 
--- this stock, and the heap as in this book
+-- a request leaves this stock of its class, and the heap alike with this book
 pub record Leaves (b : List ℕ) (c : ℕ) (x : PoolRequest) (st e : List ℕ) : Type 0 where
   pub stock : stockIn (poolOn b c x .book) c ≡ st
   pub heap : HeapAlike (poolOn b c x .book) e
@@ -124,11 +124,16 @@ pub record MixedAt (n : ℕ) (limits : Rules) (d : List ℕ) (vs : List Event) (
   -- disjoint: two entries not yet released or freed share a byte exactly when they are the same, none shares one with a page held by hand; all lie in the arena
   pub disjoint : Disjoint vs
   pub apart : IsoDisjoint n vs
-  -- carried out exactly: a release if its blocks are entries of that class of the heap not yet released, and numbers 3, 7 to 9, 11 and 15 do not apply; so are groups
+  -- carried out exactly: a release exactly if its blocks are entries of that class of the heap not yet released, and numbers 3, 7 to 9, 11 and 15 do not apply; so are groups
   pub releases : (c : ℕ) (x : Call) (h : ℕ) (ws : List ℕ) → isPooled x ≡ false → names x ≡ some (record { class = c; request = giveBack h ws })
       → (call d x .code ≡ 0) ↔ ListOut vs c h ws
   pub groups : (c h : ℕ) (ws gs fs : List ℕ) → c < 64 → (call d (Calls.releaseBinChunks c h ws gs fs) .code ≡ 0) ↔ ChunksOut vs c h ws gs fs
-  -- a run is released or grown by hand if each of its pages is held so
+  -- where all but the blocks is as it must be, and no block out stands twice, a block that is no entry of that class, a pool's among them, is refused as 10
+  pub notOut : (c : ℕ) (x : Call) (h : ℕ) (ws : List ℕ) → isPooled x ≡ false → names x ≡ some (record { class = c; request = giveBack h ws }) → h ≤ hostMax
+      → isNil ws ≡ false → every (ofKind (shapeOf c .kind)) ws ≡ true → (Twice vs c ws → ⊥) → (AllOut vs c ws → ⊥) → call d x .answer ≡ Calls.refused 10
+  pub notOutGroups : (c h : ℕ) (ws gs fs : List ℕ) → c < 64 → Plain c h ws gs fs → (Twice vs c ws → ⊥) → (AllOut vs c ws → ⊥)
+      → call d (Calls.releaseBinChunks c h ws gs fs) .answer ≡ Calls.refused 10
+  -- a run is released or grown by hand exactly if each of its pages is held so
   pub hand : (h q m : ℕ) → h ≤ hostMax → badRun m ≡ false → (call d (Calls.release h q m) .code ≡ 0) ↔ ((k : ℕ) → k < m → directAfter vs (q + k) ≡ true)
   pub growth : (h q old new : ℕ) → h ≤ hostMax → badRun old ≡ false → badRun new ≡ false → old < new
       → (call d (Calls.growFrontier h q old new) .code ≡ 0) ↔ ((k : ℕ) → k < old → directAfter vs (q + k) ≡ true)
@@ -141,8 +146,9 @@ pub record MixedAt (n : ℕ) (limits : Rules) (d : List ℕ) (vs : List Event) (
   -- a request that is refused has number 3, 4, 9 or 10 (and leaves the book, as specs/PoolRefusals says of every book); 13 answers no call
   pub numbers : (c : ℕ) (x : PoolRequest) (k : ℕ) → poolOn d c x .answer ≡ refused k → elem k (3 ∷ 4 ∷ 9 ∷ 10 ∷ []) ≡ true
   pub valid : (x : Call) → call d x .code ≡ 13 → ⊥
-  -- conserved: no call that the pool made is refused; what the heap has out by the calls that were made is, in a class of the heap, an entry; in a class of the
+  -- conserved: the arena that the words hold is the one that the calls made lead to; no call that the pool made is refused; what the heap has out by the calls that were made is, in a class of the heap, an entry; in a class of the
   -- pool, granted or in stock, and each of these once
+  pub arena : loadArena d ≡ heapAfter n limits ys .arena
   pub made-done : All (λ v. isPooled (v .call) ≡ true → isRefused (v .answer) ≡ false) (events n limits ys)
   pub entries : (c w : ℕ) → ltb c classCount ≡ true → OutIn (events n limits ys) c w ↔ OutIn vs c w
   pub out : (c w : ℕ) → ltb c classCount ≡ true → OutIn (events n limits ys) (poolId c) w ↔ (OutIn vs (poolId c) w ⊎ (elem w (stockIn d c) ≡ true))
@@ -151,6 +157,9 @@ pub record MixedAt (n : ℕ) (limits : Rules) (d : List ℕ) (vs : List Event) (
   -- `vigbuso_granted` tells the grants not yet freed, `vigbuso_stocked` how many blocks are in stock
   pub granted : (c w : ℕ) → (grantedOn d c w ≡ true) ↔ ((ltb c classCount ≡ true) × OutIn vs (poolId c) w)
   pub stocked : (c : ℕ) → ltb c classCount ≡ true → stockedOn d c ≡ length (stockIn d c)
+  -- by the history: as many as there are blocks out by the calls that were made and not granted
+  pub stockedOut : (c : ℕ) → ltb c classCount ≡ true → (ws : List ℕ) → distinct ws ≡ true
+      → ((w : ℕ) → (elem w ws ≡ true) ↔ (OutIn (events n limits ys) (poolId c) w × (OutIn vs (poolId c) w → ⊥))) → stockedOn d c ≡ length ws
   pub few : (c : ℕ) → ltb c classCount ≡ true → length (stockIn d c) ≤ countMax
   -- `vigbuso_class_of` tells the number of the class that has a run with the block's page, be it the heap's or the pool's, and 76 where none has
   pub class : (c q w : ℕ) → c < classRows → HasRun c q (events n limits ys) → inRun (shapeOf c .pages) q (pageAt w) ≡ true → classOn d w ≡ numberOf c
@@ -170,5 +179,5 @@ pub record MixedDemand : Type 0 where
   pub emptied : (s : Start) → Starts s → (xs : List PoolCall) (c h k : ℕ) → badHost h ≡ false → ltb c classCount ≡ true → length (stockIn (mixedBook s xs) c) ≤ k
       → stockIn (mixedBook s (xs ++ replicate k (to c (trim h)))) c ≡ []
   -- the heap's part of the book is what the calls that were made leave: every further history of the heap's calls is answered as on the book that these leave by
-  -- themselves, so that demand 2 holds behind every mixed history
+  -- themselves, of which demand 2 speaks
   pub heapPart : (s : Start) → Starts s → (xs : List PoolCall) → HeapAlike (mixedBook s xs) (Opening.bookAfter (pages s) (ruleRows s) (lent s) (made s xs))

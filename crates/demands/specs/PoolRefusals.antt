@@ -35,7 +35,7 @@ allocTable b c h =
     ++ (13, cond (eqb (countIn b c) 0) (strays b (takeReads b (poolId c) sh) || barren b (poolId c) sh) (strays b (topReads b c)))
     ∷ []
 
--- vigbuso_free: a block that is not granted in this class is not out there, or is in stock (`grantedIn`). A stock that holds enough is a release's concern
+-- vigbuso_free: a block that is not granted in this class is not out there, or is in stock (`grantedIn`). Where the stock has no room, the block goes to a release, with that one's words
 abbrev pub freeTable : List ℕ → ℕ → ℕ → ℕ → List Row
 freeTable b c h w =
     let n = get b (arena size) in

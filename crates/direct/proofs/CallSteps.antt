@@ -5,8 +5,9 @@ use Rattle.facts.proofs.Prelude.{leb-true, leb-false, eq-eqb, ne-eqb, not-true,
 use mir.Val.{Fits}
 use mir.Syntax.{w32, w64}
 use Rattle.words.specs.Limits.{maxPages, classRows}
+use Rattle.classes.specs.Shape.{classCount, poolId}
 use Rattle.words.specs.Host.{commitGranted}
-use Rattle.fields.specs.Field.{arena, class, frontier, state, held, emptyLimit, coldLimit, get, put}
+use Rattle.fields.specs.Field.{arena, frontier, state, held, get}
 use Rattle.rules.specs.declared.Limits.{Limits}
 use Rattle.rules.specs.Rules.{rulesOf}
 use Rattle.fields.proofs.Laws.{length-put}
@@ -22,7 +23,7 @@ use Rattle.arena.specs.Load.{statusOf, loadArena}
 use Rattle.arena.specs.Owners.{ownerCode}
 use Rattle.runs.specs.way.Record.{recordOf}
 use Rattle.arena.specs.Valid.{recordValid, holesEndValid, giveValid, growGives, growValid}
-use Rattle.arena.specs.Open.{cleared, headWords, ruled}
+use Rattle.arena.specs.Open.{cleared, headWords, limited, ruled}
 use Rattle.arena.specs.Calls.{commitFor, commitCall, given, heldDirect, releaseCall, growCall, containsCall}
 use Rattle.runs.specs.way.Act.{endNone, endRun, endGiven, settle, fromFrontier, growWith, growActs, clamped}
 use Rattle.runs.specs.way.Pre.{GiveIn, BookIn, EndsIn}
@@ -92,28 +93,52 @@ pub clear-done : (b₀ b : List ℕ) (i : ℕ) → Clearing b₀ b i → 1376 �
 unfolding headWords
 clear-done b₀ b i k l = let z : i ≡ 1376 = (let y = k .within in omega arith) in rw z at (k .rest)
 
--- ---- the limits of the first c classes
-module _ (b₀ rows : List ℕ) where
-  pub record Ruling (b : List ℕ) (c : ℕ) : Type 0 where
-    pub within : c ≤ classRows
+-- ---- the limits of the heap's classes, the first c of them; and then of the pool's, the first j, on the book b₁ that those before left
+module _ (rows : List ℕ) where
+  pub record Ruling (b₀ b : List ℕ) (c : ℕ) : Type 0 where
+    pub within : c ≤ classCount
     pub long : length b ≡ length b₀
     pub rest : b ≡ ruled b₀ (rulesOf rows) c
 
-  pub rule-start : Ruling b₀ 0
+  pub record Pooling (b₁ b : List ℕ) (j : ℕ) : Type 0 where
+    pub within : j ≤ classCount
+    pub long : length b ≡ length b₁
+    pub rest : (b₀ : List ℕ) → b₁ ≡ ruled b₀ (rulesOf rows) classCount → b ≡ ruled b₀ (rulesOf rows) (poolId j)
+
+  limited-long : (b : List ℕ) (c : ℕ) (lim : Limits) → length (limited b c lim) ≡ length b
+  limited-long b c lim = length-put _ _ _ ∙ length-put _ _ _
+
+  pub rule-start : (b₀ : List ℕ) → Ruling b₀ b₀ 0
   unfolding ruled
-  rule-start = record { within = omega arith; long = refl; rest = refl }
+  rule-start b₀ = record { within = omega arith; long = refl; rest = refl }
 
-  module _ (b : List ℕ) (c : ℕ) (k : Ruling b c) (l : c < classRows) where
-    pub rule-again : (lim : Limits) (b₁ b₂ : List ℕ) → lim ≡ rulesOf rows c → b₁ ≡ put b (class emptyLimit c) (lim .empty) → b₂ ≡ put b₁ (class coldLimit c) (lim .cold) → Ruling b₂ (c + 1)
-    unfolding ruled
-    rule-again lim b₁ b₂ e z y = record {
-      within = omega arith;
-      long = rw (y, z) (length-put _ _ _ ∙ length-put _ _ _ ∙ k .long);
-      rest = rw add-one (y ∙ rw (z, e, k .rest));
-    }
+  pub rule-again : (b₀ b : List ℕ) (c : ℕ) → Ruling b₀ b c → c < classCount → (b′ : List ℕ) → b′ ≡ limited b c (rulesOf rows c) → Ruling b₀ b′ (c + 1)
+  unfolding ruled
+  rule-again b₀ b c k l b′ e = record {
+    within = omega arith;
+    long = rw e (limited-long b c _ ∙ k .long);
+    rest = rw add-one (e ∙ ap (λ x. limited x c (rulesOf rows c)) (k .rest));
+  }
 
-  pub rule-done : (b : List ℕ) (c : ℕ) → Ruling b c → classRows ≤ c → b ≡ ruled b₀ (rulesOf rows) classRows
-  rule-done b c k l = let z : c ≡ classRows = (let y = k .within in omega arith) in rw z at (k .rest)
+  pub pool-start : (b₁ : List ℕ) → Pooling b₁ b₁ 0
+  pool-start b₁ = record { within = omega arith; long = refl; rest = λ b₀ e. e }
+
+  pub pool-again : (b₁ b : List ℕ) (j : ℕ) → Pooling b₁ b j → j < classCount → (i : ℕ) → i ≡ poolId j → (b′ : List ℕ) → b′ ≡ limited b i (rulesOf rows i) → Pooling b₁ b′ (j + 1)
+  unfolding ruled
+  pool-again b₁ b j k l i e b′ y =
+      let z : poolId (j + 1) ≡ suc (poolId j) = omega arith in
+      let w : b′ ≡ limited b (poolId j) (rulesOf rows (poolId j)) = subst (λ (x : ℕ). b′ ≡ limited b x (rulesOf rows x)) e y in
+      record {
+        within = omega arith;
+        long = rw w (limited-long b (poolId j) _ ∙ k .long);
+        rest = λ b₀ f. w ∙ ap (λ x. limited x (poolId j) (rulesOf rows (poolId j))) (k .rest b₀ f) ∙ ap (ruled b₀ (rulesOf rows)) (sym z);
+      }
+
+  pub rule-done : (b₀ b₁ : List ℕ) (c : ℕ) → Ruling b₀ b₁ c → classCount ≤ c → (b : List ℕ) (j : ℕ) → Pooling b₁ b j → classCount ≤ j → b ≡ ruled b₀ (rulesOf rows) classRows
+  rule-done b₀ b₁ c k l b j p m =
+      let z : c ≡ classCount = (let y = k .within in omega arith) in
+      let w : poolId j ≡ classRows = (let y = p .within in omega arith) in
+      p .rest b₀ (k .rest ∙ ap (ruled b₀ (rulesOf rows)) z) ∙ ap (ruled b₀ (rulesOf rows)) w
 
 -- ---- contains
 module _ (n : ℕ) (b : List ℕ) (o k : ℕ) where

@@ -72,8 +72,8 @@ observed v = record { call = asCall (v .call); answer = asAnswer (v .answer); ru
 abbrev pub observedOf : List PoolEvent → List Event
 observedOf vs = map observed vs
 
--- ---- the calls of the class with an id: takes and releases, groups too, that name it; for the pool's, the allocs, frees and trims. Their answers, and what the
--- arena gave at each
+-- ---- the calls of the class with an id: takes and releases, groups too, that name it; for the pool's, the allocs, frees and trims (and pooled calls of a caller's
+-- own, which are refused). Their answers, and what the arena gave at each
 abbrev pub isOf : ℕ → PoolCall → Bool
 isOf c (to d x) = eqb (poolId d) c
 isOf c (heap x) = History.isOf c (names x)

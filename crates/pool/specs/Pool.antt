@@ -52,7 +52,7 @@ pub data PoolAnswer : Type 0 where
   answered : Answer → PoolAnswer
 
 -- ---- what becomes of a request: it is turned away; or done with the stock alone, told as it is afterwards; or it goes to the heap, with
--- the stock as it is but for what the heap brings
+-- the stock that is left but for what the heap brings
 pub data Plan : Type 0 where
   turn : (number : ℕ) → Plan
   stays : PoolAnswer → List ℕ → Plan
@@ -92,7 +92,7 @@ pub record End : Type 0 where
   pub answer : PoolAnswer
   pub stock : List ℕ
 
--- of a take's blocks the one that was popped first, the last of its list, is granted; the others come into stock
+-- a take's blocks, the one that was popped first ahead: it is granted, the others come into stock
 abbrev pub bring : List ℕ → End
 bring [] = record { answer = noBlock; stock = [] }
 bring (w ∷ ws) = record { answer = granted w; stock = ws }
@@ -107,6 +107,7 @@ endOf (alloc h) old new a = bring (reverse (blocksOf a))
 endOf (free h w) old new a = record { answer = freed; stock = new }
 endOf (trim h) old new a = record { answer = firstOf old; stock = new }
 
+-- the number of a refusal
 abbrev pub numberOf : Answer → ℕ
 numberOf (Calls.refused n) = n
 numberOf (Calls.taken n l v) = 0
@@ -143,7 +144,7 @@ carry size P c x (turn n) = record { pool = P; answer = refused n; calls = []; r
 carry size P c x (stays a st) = record { pool = withStock P c (P .heap) st; answer = a; calls = []; run = none }
 carry size P c x (goes y st) = after P c x y st (step size (P .heap) y)
 
--- a call of the heap goes to it as it is; a pooled one names no class that a caller has
+-- a call of the heap goes to it as it is; a pooled one names no class that a caller has, and is refused as 4
 unfoldable pub pass : ℕ → Pool → Call → Done
 pass size P x =
     let o = step size (P .heap) x in

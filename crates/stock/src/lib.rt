@@ -1,4 +1,5 @@
-// The pool's code: a stock of blocks for each class, and one block out or back over the heap's calls.
+// The pool's code: a stock of blocks for each class, and one block out or back over the heap's calls. c is a class's number; the heap knows the class by
+// its id (`pool_id`).
 pub mod alloc;
 mod cells;
 pub mod free;

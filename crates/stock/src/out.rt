@@ -47,7 +47,7 @@ fn is_run(meta: &[u32], n: u32, c: u32, p: u32) -> bool
 // Granules of a small page behind its header.
 const ROOM: u32 = 4093;
 
-// The block of a small class's run that the word is, in the run that its page would be. The header is 3 granules; what lies in it wraps to behind the
+// The index of the small block that the word names, were its page a run of the class. The header is 3 granules; what lies in it wraps to behind the
 // blocks.
 fn small_at(c: u32, w: u64) -> Found
     requires { ⌜ c < 64 ⌝ }
@@ -64,7 +64,7 @@ fn small_at(c: u32, w: u64) -> Found
     Found::At(y / shape.block)
 }
 
-// A small class has a way of its own, since its runs are one page: a fifth less than by `out_at` (docs/PERFORMANCE.md).
+// A small class has a way of its own, since its runs are one page: a fifth less than by `out_at`.
 fn small_out(meta: &[u32], n: u32, c: u32, w: u64) -> bool
     requires { ⌜ SmallPre n (now meta) c w ⌝ }
     ensures { λ r. ⌜ r ≡ outAt n (now (meta .entry)) (poolId c) (shapeOf (poolId c)) w ⌝ }

@@ -25,7 +25,7 @@ pub fn is_stocked(meta: &[u32], n: u32, c: u32, g: u32) -> bool
     false
 }
 
-// It comes into place k.
+// Granule g comes into place k; COUNT stays.
 fn put(meta: &mut [u32], n: u32, c: u32, k: u32, g: u32)
     requires { ⌜ GranulePre n (now meta) c g ⌝ }
     requires { ⌜ k < 256 ⌝ }
@@ -35,7 +35,7 @@ fn put(meta: &mut [u32], n: u32, c: u32, k: u32, g: u32)
     set_place(meta, g, k);
 }
 
-// It comes on top of the k that are there.
+// Granule g comes on top of the k that are there.
 pub fn push(meta: &mut [u32], n: u32, c: u32, k: u32, g: u32)
     requires { ⌜ GranulePre n (now meta) c g ⌝ }
     requires { ⌜ k ≡ countIn (now meta) c ⌝ }

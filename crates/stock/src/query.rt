@@ -1,4 +1,4 @@
-// What a class's pool has: a block that is granted, the blocks in stock.
+// What the pool has of a class: a block that is granted, the blocks in stock.
 ghost use mathlib.Core.Path.{_≡_};
 ghost use mathlib.Core.Bool.{_&&_};
 ghost use Prim.Native.Nat.{_+_, _%_, _^_};
@@ -21,7 +21,7 @@ pub fn behind(c: u32, w: u64) -> u64
     std::num::wrapping_sub_u64(w, block_word(c, 0))
 }
 
-// A block that the class's pool granted: it is not in stock, and the heap has it out. For any word; none on a book of another layout.
+// A block that the pool granted in the class: it is not in stock, and the heap has it out. For any word; none on a book of another layout.
 pub fn granted(meta: &[u32], n: u32, c: u32, w: u64) -> bool
     requires { ⌜ PoolPre n (now meta) c ⌝ }
     ensures { λ r. ⌜ r ≡ (formatValid (now (meta .entry)) && (ofKind (shapeOf (poolId c) .kind) w && grantedIn n (now (meta .entry)) c w)) ⌝ }

@@ -12,7 +12,7 @@ const STOCK_LIMIT: u32 = 255;
 
 const STOCK_GRANULES: u32 = 16_384;
 
-// Classes below this have blocks of up to 1,024 bytes: STOCK_LIMIT of them fit 256 KiB.
+// Classes below this have blocks of up to 912 bytes: STOCK_LIMIT of them fit 256 KiB.
 const LIMITED: u32 = 22;
 
 // The most that COUNT says: a place in the stock is 8 bits.

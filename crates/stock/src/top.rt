@@ -32,7 +32,7 @@ fn ends_within(n: u32, c: u32, g: u32) -> bool
     g as u64 + block_granules(c) as u64 <= end
 }
 
-// Number 13 for a stock of k blocks: COUNT, the ENTRY on top, whose block lies in the arena whole, and FORMAT.
+// Number 13 does not apply to a stock of k blocks: COUNT, the ENTRY on top, whose block lies in the arena whole, and FORMAT are in their ranges.
 pub fn top_valid(meta: &[u32], n: u32, c: u32, k: u32) -> bool
     requires { ⌜ TopPre (now meta) c k ⌝ }
     ensures { λ r. ⌜ r ≡ topValid n (now (meta .entry)) c ⌝ }

@@ -23,7 +23,7 @@ use Rattle.release.specs.declared.Released.the-variants.{Fate}
 use Rattle.release.specs.Answer.{answerAs}
 use Rattle.vigbuso.specs.Faults.{classFault}
 
--- a take of class c among those of ids low to low + many - 1: 0 and 64 for the small ones, 64 and 12 for the medium ones
+-- a take of class c among those of ids low to low + many - 1: 0 and 64 for the small ones, 64 and 12 for the medium ones; 76 and 76 for the pool's, which no function exports
 unfoldable pub takeOn : ℕ → ℕ → List ℕ → ℕ → ℕ → List ℕ → Heap.Took
 takeOn low many b c h l =
     cond (eqb (classFault b h many c) 0)

@@ -151,4 +151,5 @@ module _ (b : List ℕ) (r : ℕ) where
   class-observed w e = record {
     answer = pool-demand-1 .class b w r e;
     observed = λ c q s o xs d low run has. e ∙ rw d (mixed-demand .after s o xs .class c q w low run has);
+    none = λ s o xs d ne. e ∙ rw d (mixed-demand .after s o xs .classless w ne);
   }

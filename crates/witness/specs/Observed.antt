@@ -155,3 +155,4 @@ pub record StockedObserved (b : List ℕ) (c r : ℕ) : Type 0 where
 pub record ClassObserved (b : List ℕ) (w r : ℕ) : Type 0 where
   pub answer : ClassAnswer b w r
   pub observed : (c q : ℕ) → AfterMixed b (λ vs us. c < classRows → HasRun c q us → inRun (shapeOf c .pages) q (pageAt w) ≡ true → r ≡ numberOf c)
+  pub none : AfterMixed b (λ vs us. ((c q : ℕ) → c < classRows → HasRun c q us → inRun (shapeOf c .pages) q (pageAt w) ≡ true → ⊥) → r ≡ classCount)

@@ -1,4 +1,4 @@
-// One block out and back, and what a class's pool has.
+// One block out and back, and what what the pool has of a class has.
 ghost use Rattle.witness.specs.Observed.{AllocObserved, FreeObserved, TrimObserved, GrantedObserved, StockedObserved, ClassObserved};
 
 pub fn alloc(meta: &mut [u32], class: u32, host: u32, block: &mut u64) -> u32
