@@ -14,7 +14,7 @@ use rules::Limits;
 use words::Word;
 
 // The counts of the two stores, and of the runs for the arena, as the chunks are gone through.
-#[derive(Drop)]
+#[derive(Clone, Copy)]
 pub struct Stores {
     pub empties: u32,
     pub colds: u32,

@@ -1,4 +1,6 @@
 // Size classes: the block sizes, the lookups, and what a class's runs look like.
+#![tactic(auto)]
+
 mod class_lut;
 mod in_tables;
 mod lookup;
@@ -18,7 +20,7 @@ pub use sizes::{
 };
 
 // The class of a size (document 02, A.6).
-#[derive(Drop)]
+#[derive(Clone, Copy)]
 pub enum Sized {
     Small(u32),
     Medium(u32),
@@ -27,7 +29,7 @@ pub enum Sized {
 
 // A class by its numbers: ids 0 to 63 are the small classes, 64 to 75 the medium ones.
 // Lengths are in granules of 16 bytes, 4,096 to a page.
-#[derive(Drop)]
+#[derive(Clone, Copy)]
 pub struct Shape {
     // The kind of its block words: small or medium.
     pub kind: u32,

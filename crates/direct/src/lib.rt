@@ -1,4 +1,6 @@
 // The calls that go straight to the arena: its direct calls, and opening.
+#![tactic(auto)]
+
 pub mod calls;
 pub mod figures;
 pub mod open;
@@ -6,14 +8,14 @@ pub mod open;
 use model::Figures;
 
 // What a growth answers.
-#[derive(Drop)]
+#[derive(Clone, Copy)]
 pub enum Grow {
     Refused(u32),
     Yes,
     No,
 }
 
-#[derive(Drop)]
+#[derive(Clone, Copy)]
 pub enum Report {
     Refused(u32),
     Reported(Figures),

@@ -1,5 +1,7 @@
 // Can an asker break a small arena (document 02, A.12)?
 // The state is an array by value: for each page the length of the run that starts there, or 0.
+#![tactic(auto)]
+
 ghost use Rattle.std.specs.Prelude.{◌≡◌, ◌+◌, ◌<◌, ◌≤◌};
 ghost use Rattle.game.specs.Game.{live, is_free, may_stand, every_placing, wins, bad_game, asker_wins, GameEnds};
 

@@ -1,4 +1,6 @@
 // All short histories of the direct calls on a small arena (document 02, A.10).
+#![tactic(auto)]
+
 mod node;
 
 ghost use Rattle.std.specs.Prelude.{◌≡◌, false, ◌+◌, ◌≤◌, length, set};

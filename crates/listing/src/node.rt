@@ -10,7 +10,7 @@ const FIRST_RELEASE: usize = 4;
 
 // The calls so far, and the arena after them by lengths alone: within four calls a commit never finds more than one hole, and where
 // runs lie shows in no history.
-#[derive(Drop)]
+#[derive(Clone, Copy)]
 pub struct Node {
     // The calls as they are written.
     pub numbers: [u32; 4],

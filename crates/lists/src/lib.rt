@@ -1,5 +1,7 @@
 // A class's pages on the words: the lists and stores that they are in, whose each page of a run is, carving; and a page's blocks: their words, the
 // stack of the free ones, and those given out and taken back.
+#![tactic(auto)]
+
 mod batch;
 mod blocks;
 mod carve;

@@ -1,4 +1,6 @@
 // Prints the medium classes: their count, then for each its number, block bytes, pages per span and blocks per span.
+#![tactic(auto)]
+
 ghost use Rattle.std.specs.Prelude.{◌≡◌, ◌<◌};
 ghost use Rattle.mediumlist.specs.Line.{line_of};
 

@@ -1,15 +1,16 @@
 // The heap on plain values: definitions in specs/, theorems in proofs/.
 // The types here are what the model shares with the code above it.
+#![tactic(auto)]
 
 // A run of free pages below the frontier.
-#[derive(Drop)]
+#[derive(Clone, Copy)]
 pub struct Hole {
     pub first: u32,
     pub pages: u32,
 }
 
 // Where a run with no block out goes: to its class's empty or cold store, or to the arena.
-#[derive(Drop)]
+#[derive(Clone, Copy)]
 pub enum Destination {
     ToEmpty,
     ToCold,
@@ -17,7 +18,7 @@ pub enum Destination {
 }
 
 // A report's figures: three counts, pages held, idle pages, and how many pages are both.
-#[derive(Drop)]
+#[derive(Clone, Copy)]
 pub struct Figures {
     pub commits: u64,
     pub reuses: u64,

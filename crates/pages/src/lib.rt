@@ -1,4 +1,5 @@
 // A class's pages and their blocks on the words: definitions, and the little code that every layer above them shares.
+#![tactic(auto)]
 
 ghost use Rattle.std.specs.Prelude.{◌≡◌, ◌^◌, ◌<◌};
 ghost use Rattle.words.specs.Word.{page_of};
@@ -7,7 +8,7 @@ ghost use Rattle.pages.specs.Stack.{page_at};
 use words::Word;
 
 // The stores of pages with no block out.
-#[derive(Drop)]
+#[derive(Clone, Copy)]
 pub enum Park {
     Empty,
     Cold,

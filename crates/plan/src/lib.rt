@@ -1,4 +1,6 @@
 // The pages that a plan of takes needs (document 02, A.1, by sizes since A.6): worked out beside the heap, no book is lent.
+#![tactic(auto)]
+
 mod faults;
 mod pages;
 mod sums;

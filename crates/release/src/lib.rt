@@ -1,4 +1,6 @@
 // Releases by list: the tests in their order, each over the whole list, and then the act.
+#![tactic(auto)]
+
 mod blocks;
 mod kinds;
 mod marks;
@@ -18,7 +20,7 @@ pub use tests::out_fault;
 pub use valid::{destination_of, limits_at, page_valid, row_valid};
 
 // What a release answers: a refusal's number, or the page's fate.
-#[derive(Drop)]
+#[derive(Clone, Copy)]
 pub enum Released {
     Refused(u32),
     Fate(u32),
@@ -26,7 +28,7 @@ pub enum Released {
 
 // What the tests before 13's last come to: a refusal's number; or the run that has all listed blocks, and in how many words of its marks
 // they are marked, 0 for none.
-#[derive(Drop)]
+#[derive(Clone, Copy)]
 pub enum Verdict {
     No(u32),
     In(u32, u32),
@@ -42,14 +44,14 @@ pub const ARENA_FATE: u32 = 2;
 pub const RETIRED: u32 = 4;
 
 // A page or a block, or none.
-#[derive(Drop)]
+#[derive(Clone, Copy)]
 pub enum Found {
     At(u32),
     Nothing,
 }
 
 // A block that is out, by its run's first page and its index there; or none.
-#[derive(Drop)]
+#[derive(Clone, Copy)]
 pub enum Out {
     Block(u32, u32),
     Nowhere,

@@ -1,5 +1,7 @@
 // Replays stored histories on the compiled heap, and compares every answer with the original's, stored beside the call. The input has
 // a call a line, as compare/src/history.rs writes them: a name, the arguments, and after `=` what the call returned and wrote.
+#![tactic(auto)]
+
 mod arena_calls;
 mod line;
 

@@ -16,7 +16,7 @@ pub fn hole_at(holes: &[Hole], i: usize) -> Hole
 }
 
 // What a scan has found: the least key, and the code of its hole.
-#[derive(Drop)]
+#[derive(Clone, Copy)]
 pub struct Best {
     pub key: u64,
     pub code: u32,
@@ -63,14 +63,14 @@ pub fn scan(holes: &[Hole], from: u32, count: u32, need: u32, behind: Best) -> B
 }
 
 // A run to be given: its first page, and the one behind its last.
-#[derive(Drop)]
+#[derive(Clone, Copy)]
 pub struct Edges {
     pub first: u32,
     pub end: u32,
 }
 
 // The codes of the holes that touch a run: of the one that ends at its first page, and of the one that starts at its end. 0 is none.
-#[derive(Drop)]
+#[derive(Clone, Copy)]
 pub struct Neighbours {
     pub before: u32,
     pub after: u32,

@@ -1,5 +1,7 @@
 // The arena on the words: its record and holes are read and tested, one step is done, and what changed is written. The holes are lent as slices, the
 // record by `&mut`, as document 01 names them.
+#![tactic(auto)]
+
 mod act;
 pub mod give;
 pub mod growth;
@@ -18,7 +20,7 @@ ghost use Rattle.runs.specs.way.Found.{found, Finds};
 ghost use Rattle.runs.specs.Answer.{Answers};
 
 // The arena's state, frontier and three counts, with the number of holes and of the pages in them.
-#[derive(Drop)]
+#[derive(Clone, Copy)]
 pub struct Arena {
     pub state: u32,
     pub frontier: u32,
@@ -30,7 +32,7 @@ pub struct Arena {
 }
 
 // What a commit of some pages finds among the holes.
-#[derive(Drop)]
+#[derive(Clone, Copy)]
 pub struct Choice {
     // Every hole is in its range.
     pub valid: bool,
@@ -39,7 +41,7 @@ pub struct Choice {
 }
 
 // What is asked of the arena: pages for an owner, in an arena of so many pages; the host word, and HELD as it was.
-#[derive(Drop)]
+#[derive(Clone, Copy)]
 pub struct ArenaRequest {
     pub size: u32,
     pub pages: u32,
@@ -49,7 +51,7 @@ pub struct ArenaRequest {
 }
 
 // A run that goes to the holes, and whether its pages are to be nobody's: those of a hole are already.
-#[derive(Drop)]
+#[derive(Clone, Copy)]
 pub struct Back {
     pub first: u32,
     pub pages: u32,
@@ -57,7 +59,7 @@ pub struct Back {
 }
 
 // What a commit answers: a refusal's number, the run's first page and whether it is fresh, or none.
-#[derive(Drop)]
+#[derive(Clone, Copy)]
 pub enum Commit {
     Refused(u32),
     Run(u32, bool),

@@ -8,7 +8,7 @@ use std::num::wrapping_add_u64;
 
 // What a commit comes to: the state and the number of holes that it leaves, the pages that the frontier moves on by or that the
 // holes lose, and whether it is counted, as a commit and as a reuse.
-#[derive(Drop)]
+#[derive(Clone, Copy)]
 pub struct Draw {
     pub state: u32,
     pub count: u32,
@@ -19,7 +19,7 @@ pub struct Draw {
 }
 
 // What a give comes to: the number of holes that it leaves, the pages that they gain, and whether the run is abandoned.
-#[derive(Drop)]
+#[derive(Clone, Copy)]
 pub struct Gain {
     pub count: u32,
     pub pages: u32,

@@ -1,4 +1,6 @@
 // Class tables from a growth rate (document 02, A.13).
+#![tactic(auto)]
+
 ghost use Rattle.std.specs.Prelude.{◌≡◌, ◌++◌, ◌≤◌, length, drop};
 ghost use Rattle.tables.specs.Table.{next_size, table, last_size, bad_rate, bad_top, Growth, class_table, TableEnds};
 

@@ -13,7 +13,7 @@ use classes::Shape;
 use runs::Commit;
 
 // A refusal's number, or how many blocks stand in the list, and whether all are virgin.
-#[derive(Drop)]
+#[derive(Clone, Copy)]
 pub enum Take {
     Refused(u32),
     Took(u32, bool),

@@ -12,7 +12,7 @@ use classes::Shape;
 use pages::Park;
 
 // What a source has: a refusal's number, no page, or how many blocks the partial list gives then, and whether all are virgin.
-#[derive(Drop)]
+#[derive(Clone, Copy)]
 pub enum Plan {
     Refused(u32),
     Nothing,

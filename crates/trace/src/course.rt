@@ -10,7 +10,7 @@ use crate::lists::restore_kinds;
 use crate::steps::{Step, Tally, word};
 
 // How many words were carried out, and what they came to.
-#[derive(Drop)]
+#[derive(Clone, Copy)]
 pub struct Course {
     pub carried: usize,
     pub tally: Tally,

@@ -1,4 +1,6 @@
 // A trace (document 02, A.7): an opening, then its words one by one, each carried out by the calls that are there.
+#![tactic(auto)]
+
 pub mod acts;
 pub mod course;
 mod lists;

@@ -18,7 +18,7 @@ use take::call::Take;
 const BYTES_MAX: u64 = 1_099_511_627_776;
 
 // Blocks handed out, figures written, blocks out, their bytes, and the highest bytes so far.
-#[derive(Drop)]
+#[derive(Clone, Copy)]
 pub struct Tally {
     pub at: usize,
     pub written: usize,
@@ -27,7 +27,7 @@ pub struct Tally {
     pub highest: u64,
 }
 
-#[derive(Drop)]
+#[derive(Clone, Copy)]
 pub enum Step {
     Stops,
     Goes(Tally),

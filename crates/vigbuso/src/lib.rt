@@ -1,4 +1,6 @@
 // The exported C functions. Numbers and slices only; each is thin over a proved function.
+#![tactic(auto)]
+
 pub mod abi;
 pub mod arena_calls;
 pub mod asker;

@@ -1,5 +1,7 @@
 // The exported functions, called, do what the demands say: each function here is one call of an exported one, and its contract is the
 // demands' words for that call. It adds nothing to the library.
+#![tactic(auto)]
+
 pub mod arena_calls;
 pub mod asker;
 pub mod chunk_calls;
