@@ -28,7 +28,8 @@ LIBRARY = set("length drop take set sets paste get_or replicate append map rever
 
 def texts(top, ends):
     for folder, dirs, files in os.walk(top):
-        dirs[:] = sorted(d for d in dirs if d not in ("out", ".git", "target"))
+        made = (".git", "target", "out") if os.path.isdir(os.path.join(folder, "src")) else (".git", "target")
+        dirs[:] = sorted(d for d in dirs if d not in made)
         for f in sorted(files):
             if f.endswith(ends) and not os.path.islink(os.path.join(folder, f)):
                 yield os.path.join(folder, f)
