@@ -1,0 +1,1001 @@
+use Rattle.facts.proofs.Prelude.{arith, ◌≡◌}
+use Rattle.classes.specs.Sizes.{small_sizes, medium_sizes}
+use Rattle.classes.specs.way.Near.{near, entered}
+use Rattle.classes.proofs.Match.{past}
+use Rattle.classes.proofs.near.by_step.Goals as goal
+
+pub returns-in-0 : goal.returns-in-0
+unfolding small_sizes medium_sizes near entered
+returns-in-0 c = rw c.in-0.keys1
+
+pub returns-in-1 : goal.returns-in-1
+unfolding small_sizes medium_sizes near entered
+returns-in-1 c = rw c.in-1.keys2
+
+pub returns-in-2 : goal.returns-in-2
+unfolding small_sizes medium_sizes near entered
+returns-in-2 c = rw c.in-2.keys3
+
+pub returns-in-3 : goal.returns-in-3
+unfolding small_sizes medium_sizes near entered
+returns-in-3 c = rw c.in-3.keys4
+
+pub returns-in-4 : goal.returns-in-4
+unfolding small_sizes medium_sizes near entered
+returns-in-4 c = rw c.in-4.keys5
+
+pub returns-in-5 : goal.returns-in-5
+unfolding small_sizes medium_sizes near entered
+returns-in-5 c = rw c.in-5.keys6
+
+pub returns-in-6 : goal.returns-in-6
+unfolding small_sizes medium_sizes near entered
+returns-in-6 c = rw c.in-6.keys7
+
+pub returns-in-7 : goal.returns-in-7
+unfolding small_sizes medium_sizes near entered
+returns-in-7 c = rw c.in-7.keys8
+
+pub returns-in-8 : goal.returns-in-8
+unfolding small_sizes medium_sizes near entered
+returns-in-8 c = rw c.in-8.keys9
+
+pub returns-in-9 : goal.returns-in-9
+unfolding small_sizes medium_sizes near entered
+returns-in-9 c = rw c.in-9.keys10
+
+pub returns-in-10 : goal.returns-in-10
+unfolding small_sizes medium_sizes near entered
+returns-in-10 c = rw c.in-10.keys11
+
+pub returns-in-11 : goal.returns-in-11
+unfolding small_sizes medium_sizes near entered
+returns-in-11 c = rw c.in-11.keys12
+
+pub returns-in-12 : goal.returns-in-12
+unfolding small_sizes medium_sizes near entered
+returns-in-12 c = rw c.in-12.keys13
+
+pub returns-in-13 : goal.returns-in-13
+unfolding small_sizes medium_sizes near entered
+returns-in-13 c = rw c.in-13.keys14
+
+pub returns-in-14 : goal.returns-in-14
+unfolding small_sizes medium_sizes near entered
+returns-in-14 c = rw c.in-14.keys15
+
+pub returns-in-15 : goal.returns-in-15
+unfolding small_sizes medium_sizes near entered
+returns-in-15 c = rw c.in-15.keys16
+
+pub returns-in-16 : goal.returns-in-16
+unfolding small_sizes medium_sizes near entered
+returns-in-16 c = rw c.in-16.keys17
+
+pub returns-in-17 : goal.returns-in-17
+unfolding small_sizes medium_sizes near entered
+returns-in-17 c = rw c.in-17.keys18
+
+pub returns-in-18 : goal.returns-in-18
+unfolding small_sizes medium_sizes near entered
+returns-in-18 c = rw c.in-18.keys19
+
+pub returns-in-19 : goal.returns-in-19
+unfolding small_sizes medium_sizes near entered
+returns-in-19 c = rw c.in-19.keys20
+
+pub returns-in-20 : goal.returns-in-20
+unfolding small_sizes medium_sizes near entered
+returns-in-20 c = rw c.in-20.keys21
+
+pub returns-in-21 : goal.returns-in-21
+unfolding small_sizes medium_sizes near entered
+returns-in-21 c = rw c.in-21.keys22
+
+pub returns-in-22 : goal.returns-in-22
+unfolding small_sizes medium_sizes near entered
+returns-in-22 c = rw c.in-22.keys23
+
+pub returns-in-23 : goal.returns-in-23
+unfolding small_sizes medium_sizes near entered
+returns-in-23 c = rw c.in-23.keys24
+
+pub returns-in-24 : goal.returns-in-24
+unfolding small_sizes medium_sizes near entered
+returns-in-24 c = rw c.in-24.keys25
+
+pub returns-in-25 : goal.returns-in-25
+unfolding small_sizes medium_sizes near entered
+returns-in-25 c = rw c.in-25.keys26
+
+pub returns-in-26 : goal.returns-in-26
+unfolding small_sizes medium_sizes near entered
+returns-in-26 c = rw c.in-26.keys27
+
+pub returns-in-27 : goal.returns-in-27
+unfolding small_sizes medium_sizes near entered
+returns-in-27 c = rw c.in-27.keys28
+
+pub returns-in-28 : goal.returns-in-28
+unfolding small_sizes medium_sizes near entered
+returns-in-28 c = rw c.in-28.keys29
+
+pub returns-in-29 : goal.returns-in-29
+unfolding small_sizes medium_sizes near entered
+returns-in-29 c = rw c.in-29.keys30
+
+pub returns-in-30 : goal.returns-in-30
+unfolding small_sizes medium_sizes near entered
+returns-in-30 c = rw c.in-30.keys31
+
+pub returns-in-31 : goal.returns-in-31
+unfolding small_sizes medium_sizes near entered
+returns-in-31 c = rw c.in-31.keys32
+
+pub returns-in-32 : goal.returns-in-32
+unfolding small_sizes medium_sizes near entered
+returns-in-32 c = rw c.in-32.keys33
+
+pub returns-in-33 : goal.returns-in-33
+unfolding small_sizes medium_sizes near entered
+returns-in-33 c = rw c.in-33.keys34
+
+pub returns-in-34 : goal.returns-in-34
+unfolding small_sizes medium_sizes near entered
+returns-in-34 c = rw c.in-34.keys35
+
+pub returns-in-35 : goal.returns-in-35
+unfolding small_sizes medium_sizes near entered
+returns-in-35 c = rw c.in-35.keys36
+
+pub returns-in-36 : goal.returns-in-36
+unfolding small_sizes medium_sizes near entered
+returns-in-36 c = rw c.in-36.keys37
+
+pub returns-in-37 : goal.returns-in-37
+unfolding small_sizes medium_sizes near entered
+returns-in-37 c = rw c.in-37.keys38
+
+pub returns-in-38 : goal.returns-in-38
+unfolding small_sizes medium_sizes near entered
+returns-in-38 c = rw c.in-38.keys39
+
+pub returns-in-39 : goal.returns-in-39
+unfolding small_sizes medium_sizes near entered
+returns-in-39 c = rw c.in-39.keys40
+
+pub returns-in-40 : goal.returns-in-40
+unfolding small_sizes medium_sizes near entered
+returns-in-40 c = rw c.in-40.keys41
+
+pub returns-in-41 : goal.returns-in-41
+unfolding small_sizes medium_sizes near entered
+returns-in-41 c = rw c.in-41.keys42
+
+pub returns-in-42 : goal.returns-in-42
+unfolding small_sizes medium_sizes near entered
+returns-in-42 c = rw c.in-42.keys43
+
+pub returns-in-43 : goal.returns-in-43
+unfolding small_sizes medium_sizes near entered
+returns-in-43 c = rw c.in-43.keys44
+
+pub returns-in-44 : goal.returns-in-44
+unfolding small_sizes medium_sizes near entered
+returns-in-44 c = rw c.in-44.keys45
+
+pub returns-in-45 : goal.returns-in-45
+unfolding small_sizes medium_sizes near entered
+returns-in-45 c = rw c.in-45.keys46
+
+pub returns-in-46 : goal.returns-in-46
+unfolding small_sizes medium_sizes near entered
+returns-in-46 c = rw c.in-46.keys47
+
+pub returns-in-47 : goal.returns-in-47
+unfolding small_sizes medium_sizes near entered
+returns-in-47 c = rw c.in-47.keys48
+
+pub returns-in-48 : goal.returns-in-48
+unfolding small_sizes medium_sizes near entered
+returns-in-48 c = rw c.in-48.keys49
+
+pub returns-in-49 : goal.returns-in-49
+unfolding small_sizes medium_sizes near entered
+returns-in-49 c = rw c.in-49.keys50
+
+pub returns-in-50 : goal.returns-in-50
+unfolding small_sizes medium_sizes near entered
+returns-in-50 c = rw c.in-50.keys51
+
+pub returns-in-51 : goal.returns-in-51
+unfolding small_sizes medium_sizes near entered
+returns-in-51 c = rw c.in-51.keys52
+
+pub returns-in-52 : goal.returns-in-52
+unfolding small_sizes medium_sizes near entered
+returns-in-52 c = rw c.in-52.keys53
+
+pub returns-in-53 : goal.returns-in-53
+unfolding small_sizes medium_sizes near entered
+returns-in-53 c = rw c.in-53.keys54
+
+pub returns-in-54 : goal.returns-in-54
+unfolding small_sizes medium_sizes near entered
+returns-in-54 c = rw c.in-54.keys55
+
+pub returns-in-55 : goal.returns-in-55
+unfolding small_sizes medium_sizes near entered
+returns-in-55 c = rw c.in-55.keys56
+
+pub returns-in-56 : goal.returns-in-56
+unfolding small_sizes medium_sizes near entered
+returns-in-56 c = rw c.in-56.keys57
+
+pub returns-in-57 : goal.returns-in-57
+unfolding small_sizes medium_sizes near entered
+returns-in-57 c = rw c.in-57.keys58
+
+pub returns-in-58 : goal.returns-in-58
+unfolding small_sizes medium_sizes near entered
+returns-in-58 c = rw c.in-58.keys59
+
+pub returns-in-59 : goal.returns-in-59
+unfolding small_sizes medium_sizes near entered
+returns-in-59 c = rw c.in-59.keys60
+
+pub returns-in-60 : goal.returns-in-60
+unfolding small_sizes medium_sizes near entered
+returns-in-60 c = rw c.in-60.keys61
+
+pub returns-in-61 : goal.returns-in-61
+unfolding small_sizes medium_sizes near entered
+returns-in-61 c = rw c.in-61.keys62
+
+pub returns-in-62 : goal.returns-in-62
+unfolding small_sizes medium_sizes near entered
+returns-in-62 c = rw c.in-62.keys63
+
+pub returns-in-63 : goal.returns-in-63
+unfolding small_sizes medium_sizes near entered
+returns-in-63 c = rw c.in-63.keys64
+
+pub returns-in-64 : goal.returns-in-64
+unfolding small_sizes medium_sizes near entered
+returns-in-64 c = rw c.in-64.keys65
+
+pub returns-in-65 : goal.returns-in-65
+unfolding small_sizes medium_sizes near entered
+returns-in-65 c = rw c.in-65.keys66
+
+pub returns-in-66 : goal.returns-in-66
+unfolding small_sizes medium_sizes near entered
+returns-in-66 c = rw c.in-66.keys67
+
+pub returns-in-67 : goal.returns-in-67
+unfolding small_sizes medium_sizes near entered
+returns-in-67 c = rw c.in-67.keys68
+
+pub returns-in-68 : goal.returns-in-68
+unfolding small_sizes medium_sizes near entered
+returns-in-68 c = rw c.in-68.keys69
+
+pub returns-in-69 : goal.returns-in-69
+unfolding small_sizes medium_sizes near entered
+returns-in-69 c = rw c.in-69.keys70
+
+pub returns-in-70 : goal.returns-in-70
+unfolding small_sizes medium_sizes near entered
+returns-in-70 c = rw c.in-70.keys71
+
+pub returns-in-71 : goal.returns-in-71
+unfolding small_sizes medium_sizes near entered
+returns-in-71 c = rw c.in-71.keys72
+
+pub returns-in-72 : goal.returns-in-72
+unfolding small_sizes medium_sizes near entered
+returns-in-72 c = rw c.in-72.keys73
+
+pub returns-in-73 : goal.returns-in-73
+unfolding small_sizes medium_sizes near entered
+returns-in-73 c = rw c.in-73.keys74
+
+pub returns-in-74 : goal.returns-in-74
+unfolding small_sizes medium_sizes near entered
+returns-in-74 c = rw c.in-74.keys75
+
+pub returns-in-75 : goal.returns-in-75
+unfolding small_sizes medium_sizes near entered
+returns-in-75 c = rw c.in-75.keys76
+
+pub returns-in-76 : goal.returns-in-76
+unfolding small_sizes medium_sizes near entered
+returns-in-76 c = rw c.in-76.keys77
+
+pub returns-in-77 : goal.returns-in-77
+unfolding small_sizes medium_sizes near entered
+returns-in-77 c = rw c.in-77.keys78
+
+pub returns-in-78 : goal.returns-in-78
+unfolding small_sizes medium_sizes near entered
+returns-in-78 c = rw c.in-78.keys79
+
+pub returns-in-79 : goal.returns-in-79
+unfolding small_sizes medium_sizes near entered
+returns-in-79 c = rw c.in-79.keys80
+
+pub returns-in-80 : goal.returns-in-80
+unfolding small_sizes medium_sizes near entered
+returns-in-80 c = rw c.in-80.keys81
+
+pub returns-in-81 : goal.returns-in-81
+unfolding small_sizes medium_sizes near entered
+returns-in-81 c = rw c.in-81.keys82
+
+pub returns-in-82 : goal.returns-in-82
+unfolding small_sizes medium_sizes near entered
+returns-in-82 c = rw c.in-82.keys83
+
+pub returns-in-83 : goal.returns-in-83
+unfolding small_sizes medium_sizes near entered
+returns-in-83 c = rw c.in-83.keys84
+
+pub returns-in-84 : goal.returns-in-84
+unfolding small_sizes medium_sizes near entered
+returns-in-84 c = rw c.in-84.keys85
+
+pub returns-in-85 : goal.returns-in-85
+unfolding small_sizes medium_sizes near entered
+returns-in-85 c = rw c.in-85.keys86
+
+pub returns-in-86 : goal.returns-in-86
+unfolding small_sizes medium_sizes near entered
+returns-in-86 c = rw c.in-86.keys87
+
+pub returns-in-87 : goal.returns-in-87
+unfolding small_sizes medium_sizes near entered
+returns-in-87 c = rw c.in-87.keys88
+
+pub returns-in-88 : goal.returns-in-88
+unfolding small_sizes medium_sizes near entered
+returns-in-88 c = rw c.in-88.keys89
+
+pub returns-in-89 : goal.returns-in-89
+unfolding small_sizes medium_sizes near entered
+returns-in-89 c = rw c.in-89.keys90
+
+pub returns-in-90 : goal.returns-in-90
+unfolding small_sizes medium_sizes near entered
+returns-in-90 c = rw c.in-90.keys91
+
+pub returns-in-91 : goal.returns-in-91
+unfolding small_sizes medium_sizes near entered
+returns-in-91 c = rw c.in-91.keys92
+
+pub returns-in-92 : goal.returns-in-92
+unfolding small_sizes medium_sizes near entered
+returns-in-92 c = rw c.in-92.keys93
+
+pub returns-in-93 : goal.returns-in-93
+unfolding small_sizes medium_sizes near entered
+returns-in-93 c = rw c.in-93.keys94
+
+pub returns-in-94 : goal.returns-in-94
+unfolding small_sizes medium_sizes near entered
+returns-in-94 c = rw c.in-94.keys95
+
+pub returns-in-95 : goal.returns-in-95
+unfolding small_sizes medium_sizes near entered
+returns-in-95 c = rw c.in-95.keys96
+
+pub returns-in-96 : goal.returns-in-96
+unfolding small_sizes medium_sizes near entered
+returns-in-96 c = rw c.in-96.keys97
+
+pub returns-in-97 : goal.returns-in-97
+unfolding small_sizes medium_sizes near entered
+returns-in-97 c = rw c.in-97.keys98
+
+pub returns-in-98 : goal.returns-in-98
+unfolding small_sizes medium_sizes near entered
+returns-in-98 c = rw c.in-98.keys99
+
+pub returns-in-99 : goal.returns-in-99
+unfolding small_sizes medium_sizes near entered
+returns-in-99 c = rw c.in-99.keys100
+
+pub returns-in-100 : goal.returns-in-100
+unfolding small_sizes medium_sizes near entered
+returns-in-100 c = rw c.in-100.keys101
+
+pub returns-in-101 : goal.returns-in-101
+unfolding small_sizes medium_sizes near entered
+returns-in-101 c = rw c.in-101.keys102
+
+pub returns-in-102 : goal.returns-in-102
+unfolding small_sizes medium_sizes near entered
+returns-in-102 c = rw c.in-102.keys103
+
+pub returns-in-103 : goal.returns-in-103
+unfolding small_sizes medium_sizes near entered
+returns-in-103 c = rw c.in-103.keys104
+
+pub returns-in-104 : goal.returns-in-104
+unfolding small_sizes medium_sizes near entered
+returns-in-104 c = rw c.in-104.keys105
+
+pub returns-in-105 : goal.returns-in-105
+unfolding small_sizes medium_sizes near entered
+returns-in-105 c = rw c.in-105.keys106
+
+pub returns-in-106 : goal.returns-in-106
+unfolding small_sizes medium_sizes near entered
+returns-in-106 c = rw c.in-106.keys107
+
+pub returns-in-107 : goal.returns-in-107
+unfolding small_sizes medium_sizes near entered
+returns-in-107 c = rw c.in-107.keys108
+
+pub returns-in-108 : goal.returns-in-108
+unfolding small_sizes medium_sizes near entered
+returns-in-108 c = rw c.in-108.keys109
+
+pub returns-in-109 : goal.returns-in-109
+unfolding small_sizes medium_sizes near entered
+returns-in-109 c = rw c.in-109.keys110
+
+pub returns-in-110 : goal.returns-in-110
+unfolding small_sizes medium_sizes near entered
+returns-in-110 c = rw c.in-110.keys111
+
+pub returns-in-111 : goal.returns-in-111
+unfolding small_sizes medium_sizes near entered
+returns-in-111 c = rw c.in-111.keys112
+
+pub returns-in-112 : goal.returns-in-112
+unfolding small_sizes medium_sizes near entered
+returns-in-112 c = rw c.in-112.keys113
+
+pub returns-in-113 : goal.returns-in-113
+unfolding small_sizes medium_sizes near entered
+returns-in-113 c = rw c.in-113.keys114
+
+pub returns-in-114 : goal.returns-in-114
+unfolding small_sizes medium_sizes near entered
+returns-in-114 c = rw c.in-114.keys115
+
+pub returns-in-115 : goal.returns-in-115
+unfolding small_sizes medium_sizes near entered
+returns-in-115 c = rw c.in-115.keys116
+
+pub returns-in-116 : goal.returns-in-116
+unfolding small_sizes medium_sizes near entered
+returns-in-116 c = rw c.in-116.keys117
+
+pub returns-in-117 : goal.returns-in-117
+unfolding small_sizes medium_sizes near entered
+returns-in-117 c = rw c.in-117.keys118
+
+pub returns-in-118 : goal.returns-in-118
+unfolding small_sizes medium_sizes near entered
+returns-in-118 c = rw c.in-118.keys119
+
+pub returns-in-119 : goal.returns-in-119
+unfolding small_sizes medium_sizes near entered
+returns-in-119 c = rw c.in-119.keys120
+
+pub returns-in-120 : goal.returns-in-120
+unfolding small_sizes medium_sizes near entered
+returns-in-120 c = rw c.in-120.keys121
+
+pub returns-in-121 : goal.returns-in-121
+unfolding small_sizes medium_sizes near entered
+returns-in-121 c = rw c.in-121.keys122
+
+pub returns-in-122 : goal.returns-in-122
+unfolding small_sizes medium_sizes near entered
+returns-in-122 c = rw c.in-122.keys123
+
+pub returns-in-123 : goal.returns-in-123
+unfolding small_sizes medium_sizes near entered
+returns-in-123 c = rw c.in-123.keys124
+
+pub returns-in-124 : goal.returns-in-124
+unfolding small_sizes medium_sizes near entered
+returns-in-124 c = rw c.in-124.keys125
+
+pub returns-in-125 : goal.returns-in-125
+unfolding small_sizes medium_sizes near entered
+returns-in-125 c = rw c.in-125.keys126
+
+pub returns-in-126 : goal.returns-in-126
+unfolding small_sizes medium_sizes near entered
+returns-in-126 c = rw c.in-126.keys127
+
+pub returns-in-127 : goal.returns-in-127
+unfolding small_sizes medium_sizes near entered
+returns-in-127 c = rw c.in-127.keys128
+
+pub returns-in-128 : goal.returns-in-128
+unfolding small_sizes medium_sizes near entered
+returns-in-128 c = rw c.in-128.keys129
+
+pub returns-in-129 : goal.returns-in-129
+unfolding small_sizes medium_sizes near entered
+returns-in-129 c = rw c.in-129.keys130
+
+pub returns-in-130 : goal.returns-in-130
+unfolding small_sizes medium_sizes near entered
+returns-in-130 c = rw c.in-130.keys131
+
+pub returns-in-131 : goal.returns-in-131
+unfolding small_sizes medium_sizes near entered
+returns-in-131 c = rw c.in-131.keys132
+
+pub returns-in-132 : goal.returns-in-132
+unfolding small_sizes medium_sizes near entered
+returns-in-132 c = rw c.in-132.keys133
+
+pub returns-in-133 : goal.returns-in-133
+unfolding small_sizes medium_sizes near entered
+returns-in-133 c = rw c.in-133.keys134
+
+pub returns-in-134 : goal.returns-in-134
+unfolding small_sizes medium_sizes near entered
+returns-in-134 c = rw c.in-134.keys135
+
+pub returns-in-135 : goal.returns-in-135
+unfolding small_sizes medium_sizes near entered
+returns-in-135 c = rw c.in-135.keys136
+
+pub returns-in-136 : goal.returns-in-136
+unfolding small_sizes medium_sizes near entered
+returns-in-136 c = rw c.in-136.keys137
+
+pub returns-in-137 : goal.returns-in-137
+unfolding small_sizes medium_sizes near entered
+returns-in-137 c = rw c.in-137.keys138
+
+pub returns-in-138 : goal.returns-in-138
+unfolding small_sizes medium_sizes near entered
+returns-in-138 c = rw c.in-138.keys139
+
+pub returns-in-139 : goal.returns-in-139
+unfolding small_sizes medium_sizes near entered
+returns-in-139 c = rw c.in-139.keys140
+
+pub returns-in-140 : goal.returns-in-140
+unfolding small_sizes medium_sizes near entered
+returns-in-140 c = rw c.in-140.keys141
+
+pub returns-in-141 : goal.returns-in-141
+unfolding small_sizes medium_sizes near entered
+returns-in-141 c = rw c.in-141.keys142
+
+pub returns-in-142 : goal.returns-in-142
+unfolding small_sizes medium_sizes near entered
+returns-in-142 c = rw c.in-142.keys143
+
+pub returns-in-143 : goal.returns-in-143
+unfolding small_sizes medium_sizes near entered
+returns-in-143 c = rw c.in-143.keys144
+
+pub returns-in-144 : goal.returns-in-144
+unfolding small_sizes medium_sizes near entered
+returns-in-144 c = rw c.in-144.keys145
+
+pub returns-in-145 : goal.returns-in-145
+unfolding small_sizes medium_sizes near entered
+returns-in-145 c = rw c.in-145.keys146
+
+pub returns-in-146 : goal.returns-in-146
+unfolding small_sizes medium_sizes near entered
+returns-in-146 c = rw c.in-146.keys147
+
+pub returns-in-147 : goal.returns-in-147
+unfolding small_sizes medium_sizes near entered
+returns-in-147 c = rw c.in-147.keys148
+
+pub returns-in-148 : goal.returns-in-148
+unfolding small_sizes medium_sizes near entered
+returns-in-148 c = rw c.in-148.keys149
+
+pub returns-in-149 : goal.returns-in-149
+unfolding small_sizes medium_sizes near entered
+returns-in-149 c = rw c.in-149.keys150
+
+pub returns-in-150 : goal.returns-in-150
+unfolding small_sizes medium_sizes near entered
+returns-in-150 c = rw c.in-150.keys151
+
+pub returns-in-151 : goal.returns-in-151
+unfolding small_sizes medium_sizes near entered
+returns-in-151 c = rw c.in-151.keys152
+
+pub returns-in-152 : goal.returns-in-152
+unfolding small_sizes medium_sizes near entered
+returns-in-152 c = rw c.in-152.keys153
+
+pub returns-in-153 : goal.returns-in-153
+unfolding small_sizes medium_sizes near entered
+returns-in-153 c = rw c.in-153.keys154
+
+pub returns-in-154 : goal.returns-in-154
+unfolding small_sizes medium_sizes near entered
+returns-in-154 c = rw c.in-154.keys155
+
+pub returns-in-155 : goal.returns-in-155
+unfolding small_sizes medium_sizes near entered
+returns-in-155 c = rw c.in-155.keys156
+
+pub returns-in-156 : goal.returns-in-156
+unfolding small_sizes medium_sizes near entered
+returns-in-156 c = rw c.in-156.keys157
+
+pub returns-in-157 : goal.returns-in-157
+unfolding small_sizes medium_sizes near entered
+returns-in-157 c = rw c.in-157.keys158
+
+pub returns-in-158 : goal.returns-in-158
+unfolding small_sizes medium_sizes near entered
+returns-in-158 c = rw c.in-158.keys159
+
+pub returns-in-159 : goal.returns-in-159
+unfolding small_sizes medium_sizes near entered
+returns-in-159 c = rw c.in-159.keys160
+
+pub returns-in-160 : goal.returns-in-160
+unfolding small_sizes medium_sizes near entered
+returns-in-160 c = rw c.in-160.keys161
+
+pub returns-in-161 : goal.returns-in-161
+unfolding small_sizes medium_sizes near entered
+returns-in-161 c = rw c.in-161.keys162
+
+pub returns-in-162 : goal.returns-in-162
+unfolding small_sizes medium_sizes near entered
+returns-in-162 c = rw c.in-162.keys163
+
+pub returns-in-163 : goal.returns-in-163
+unfolding small_sizes medium_sizes near entered
+returns-in-163 c = rw c.in-163.keys164
+
+pub returns-in-164 : goal.returns-in-164
+unfolding small_sizes medium_sizes near entered
+returns-in-164 c = rw c.in-164.keys165
+
+pub returns-in-165 : goal.returns-in-165
+unfolding small_sizes medium_sizes near entered
+returns-in-165 c = rw c.in-165.keys166
+
+pub returns-in-166 : goal.returns-in-166
+unfolding small_sizes medium_sizes near entered
+returns-in-166 c = rw c.in-166.keys167
+
+pub returns-in-167 : goal.returns-in-167
+unfolding small_sizes medium_sizes near entered
+returns-in-167 c = rw c.in-167.keys168
+
+pub returns-in-168 : goal.returns-in-168
+unfolding small_sizes medium_sizes near entered
+returns-in-168 c = rw c.in-168.keys169
+
+pub returns-in-169 : goal.returns-in-169
+unfolding small_sizes medium_sizes near entered
+returns-in-169 c = rw c.in-169.keys170
+
+pub returns-in-170 : goal.returns-in-170
+unfolding small_sizes medium_sizes near entered
+returns-in-170 c = rw c.in-170.keys171
+
+pub returns-in-171 : goal.returns-in-171
+unfolding small_sizes medium_sizes near entered
+returns-in-171 c = rw c.in-171.keys172
+
+pub returns-in-172 : goal.returns-in-172
+unfolding small_sizes medium_sizes near entered
+returns-in-172 c = rw c.in-172.keys173
+
+pub returns-in-173 : goal.returns-in-173
+unfolding small_sizes medium_sizes near entered
+returns-in-173 c = rw c.in-173.keys174
+
+pub returns-in-174 : goal.returns-in-174
+unfolding small_sizes medium_sizes near entered
+returns-in-174 c = rw c.in-174.keys175
+
+pub returns-in-175 : goal.returns-in-175
+unfolding small_sizes medium_sizes near entered
+returns-in-175 c = rw c.in-175.keys176
+
+pub returns-in-176 : goal.returns-in-176
+unfolding small_sizes medium_sizes near entered
+returns-in-176 c = rw c.in-176.keys177
+
+pub returns-in-177 : goal.returns-in-177
+unfolding small_sizes medium_sizes near entered
+returns-in-177 c = rw c.in-177.keys178
+
+pub returns-in-178 : goal.returns-in-178
+unfolding small_sizes medium_sizes near entered
+returns-in-178 c = rw c.in-178.keys179
+
+pub returns-in-179 : goal.returns-in-179
+unfolding small_sizes medium_sizes near entered
+returns-in-179 c = rw c.in-179.keys180
+
+pub returns-in-180 : goal.returns-in-180
+unfolding small_sizes medium_sizes near entered
+returns-in-180 c = rw c.in-180.keys181
+
+pub returns-in-181 : goal.returns-in-181
+unfolding small_sizes medium_sizes near entered
+returns-in-181 c = rw c.in-181.keys182
+
+pub returns-in-182 : goal.returns-in-182
+unfolding small_sizes medium_sizes near entered
+returns-in-182 c = rw c.in-182.keys183
+
+pub returns-in-183 : goal.returns-in-183
+unfolding small_sizes medium_sizes near entered
+returns-in-183 c = rw c.in-183.keys184
+
+pub returns-in-184 : goal.returns-in-184
+unfolding small_sizes medium_sizes near entered
+returns-in-184 c = rw c.in-184.keys185
+
+pub returns-in-185 : goal.returns-in-185
+unfolding small_sizes medium_sizes near entered
+returns-in-185 c = rw c.in-185.keys186
+
+pub returns-in-186 : goal.returns-in-186
+unfolding small_sizes medium_sizes near entered
+returns-in-186 c = rw c.in-186.keys187
+
+pub returns-in-187 : goal.returns-in-187
+unfolding small_sizes medium_sizes near entered
+returns-in-187 c = rw c.in-187.keys188
+
+pub returns-in-188 : goal.returns-in-188
+unfolding small_sizes medium_sizes near entered
+returns-in-188 c = rw c.in-188.keys189
+
+pub returns-in-189 : goal.returns-in-189
+unfolding small_sizes medium_sizes near entered
+returns-in-189 c = rw c.in-189.keys190
+
+pub returns-in-190 : goal.returns-in-190
+unfolding small_sizes medium_sizes near entered
+returns-in-190 c = rw c.in-190.keys191
+
+pub returns-in-191 : goal.returns-in-191
+unfolding small_sizes medium_sizes near entered
+returns-in-191 c = rw c.in-191.keys192
+
+pub returns-in-192 : goal.returns-in-192
+unfolding small_sizes medium_sizes near entered
+returns-in-192 c = rw c.in-192.keys193
+
+pub returns-in-193 : goal.returns-in-193
+unfolding small_sizes medium_sizes near entered
+returns-in-193 c = rw c.in-193.keys194
+
+pub returns-in-194 : goal.returns-in-194
+unfolding small_sizes medium_sizes near entered
+returns-in-194 c = rw c.in-194.keys195
+
+pub returns-in-195 : goal.returns-in-195
+unfolding small_sizes medium_sizes near entered
+returns-in-195 c = rw c.in-195.keys196
+
+pub returns-in-196 : goal.returns-in-196
+unfolding small_sizes medium_sizes near entered
+returns-in-196 c = rw c.in-196.keys197
+
+pub returns-in-197 : goal.returns-in-197
+unfolding small_sizes medium_sizes near entered
+returns-in-197 c = rw c.in-197.keys198
+
+pub returns-in-198 : goal.returns-in-198
+unfolding small_sizes medium_sizes near entered
+returns-in-198 c = rw c.in-198.keys199
+
+pub returns-in-199 : goal.returns-in-199
+unfolding small_sizes medium_sizes near entered
+returns-in-199 c = rw c.in-199.keys200
+
+pub returns-in-200 : goal.returns-in-200
+unfolding small_sizes medium_sizes near entered
+returns-in-200 c = rw c.in-200.keys201
+
+pub returns-in-201 : goal.returns-in-201
+unfolding small_sizes medium_sizes near entered
+returns-in-201 c = rw c.in-201.keys202
+
+pub returns-in-202 : goal.returns-in-202
+unfolding small_sizes medium_sizes near entered
+returns-in-202 c = rw c.in-202.keys203
+
+pub returns-in-203 : goal.returns-in-203
+unfolding small_sizes medium_sizes near entered
+returns-in-203 c = rw c.in-203.keys204
+
+pub returns-in-204 : goal.returns-in-204
+unfolding small_sizes medium_sizes near entered
+returns-in-204 c = rw c.in-204.keys205
+
+pub returns-in-205 : goal.returns-in-205
+unfolding small_sizes medium_sizes near entered
+returns-in-205 c = rw c.in-205.keys206
+
+pub returns-in-206 : goal.returns-in-206
+unfolding small_sizes medium_sizes near entered
+returns-in-206 c = rw c.in-206.keys207
+
+pub returns-in-207 : goal.returns-in-207
+unfolding small_sizes medium_sizes near entered
+returns-in-207 c = rw c.in-207.keys208
+
+pub returns-in-208 : goal.returns-in-208
+unfolding small_sizes medium_sizes near entered
+returns-in-208 c = rw c.in-208.keys209
+
+pub returns-in-209 : goal.returns-in-209
+unfolding small_sizes medium_sizes near entered
+returns-in-209 c = rw c.in-209.keys210
+
+pub returns-in-210 : goal.returns-in-210
+unfolding small_sizes medium_sizes near entered
+returns-in-210 c = rw c.in-210.keys211
+
+pub returns-in-211 : goal.returns-in-211
+unfolding small_sizes medium_sizes near entered
+returns-in-211 c = rw c.in-211.keys212
+
+pub returns-in-212 : goal.returns-in-212
+unfolding small_sizes medium_sizes near entered
+returns-in-212 c = rw c.in-212.keys213
+
+pub returns-in-213 : goal.returns-in-213
+unfolding small_sizes medium_sizes near entered
+returns-in-213 c = rw c.in-213.keys214
+
+pub returns-in-214 : goal.returns-in-214
+unfolding small_sizes medium_sizes near entered
+returns-in-214 c = rw c.in-214.keys215
+
+pub returns-in-215 : goal.returns-in-215
+unfolding small_sizes medium_sizes near entered
+returns-in-215 c = rw c.in-215.keys216
+
+pub returns-in-216 : goal.returns-in-216
+unfolding small_sizes medium_sizes near entered
+returns-in-216 c = rw c.in-216.keys217
+
+pub returns-in-217 : goal.returns-in-217
+unfolding small_sizes medium_sizes near entered
+returns-in-217 c = rw c.in-217.keys218
+
+pub returns-in-218 : goal.returns-in-218
+unfolding small_sizes medium_sizes near entered
+returns-in-218 c = rw c.in-218.keys219
+
+pub returns-in-219 : goal.returns-in-219
+unfolding small_sizes medium_sizes near entered
+returns-in-219 c = rw c.in-219.keys220
+
+pub returns-in-220 : goal.returns-in-220
+unfolding small_sizes medium_sizes near entered
+returns-in-220 c = rw c.in-220.keys221
+
+pub returns-in-221 : goal.returns-in-221
+unfolding small_sizes medium_sizes near entered
+returns-in-221 c = rw c.in-221.keys222
+
+pub returns-in-222 : goal.returns-in-222
+unfolding small_sizes medium_sizes near entered
+returns-in-222 c = rw c.in-222.keys223
+
+pub returns-in-223 : goal.returns-in-223
+unfolding small_sizes medium_sizes near entered
+returns-in-223 c = rw c.in-223.keys224
+
+pub returns-in-224 : goal.returns-in-224
+unfolding small_sizes medium_sizes near entered
+returns-in-224 c = rw c.in-224.keys225
+
+pub returns-in-225 : goal.returns-in-225
+unfolding small_sizes medium_sizes near entered
+returns-in-225 c = rw c.in-225.keys226
+
+pub returns-in-226 : goal.returns-in-226
+unfolding small_sizes medium_sizes near entered
+returns-in-226 c = rw c.in-226.keys227
+
+pub returns-in-227 : goal.returns-in-227
+unfolding small_sizes medium_sizes near entered
+returns-in-227 c = rw c.in-227.keys228
+
+pub returns-in-228 : goal.returns-in-228
+unfolding small_sizes medium_sizes near entered
+returns-in-228 c = rw c.in-228.keys229
+
+pub returns-in-229 : goal.returns-in-229
+unfolding small_sizes medium_sizes near entered
+returns-in-229 c = rw c.in-229.keys230
+
+pub returns-in-230 : goal.returns-in-230
+unfolding small_sizes medium_sizes near entered
+returns-in-230 c = rw c.in-230.keys231
+
+pub returns-in-231 : goal.returns-in-231
+unfolding small_sizes medium_sizes near entered
+returns-in-231 c = rw c.in-231.keys232
+
+pub returns-in-232 : goal.returns-in-232
+unfolding small_sizes medium_sizes near entered
+returns-in-232 c = rw c.in-232.keys233
+
+pub returns-in-233 : goal.returns-in-233
+unfolding small_sizes medium_sizes near entered
+returns-in-233 c = rw c.in-233.keys234
+
+pub returns-in-234 : goal.returns-in-234
+unfolding small_sizes medium_sizes near entered
+returns-in-234 c = rw c.in-234.keys235
+
+pub returns-in-235 : goal.returns-in-235
+unfolding small_sizes medium_sizes near entered
+returns-in-235 c = rw c.in-235.keys236
+
+pub returns-in-236 : goal.returns-in-236
+unfolding small_sizes medium_sizes near entered
+returns-in-236 c = rw c.in-236.keys237
+
+pub returns-in-237 : goal.returns-in-237
+unfolding small_sizes medium_sizes near entered
+returns-in-237 c = rw c.in-237.keys238
+
+pub returns-in-238 : goal.returns-in-238
+unfolding small_sizes medium_sizes near entered
+returns-in-238 c = rw c.in-238.keys239
+
+pub returns-in-239 : goal.returns-in-239
+unfolding small_sizes medium_sizes near entered
+returns-in-239 c = rw c.in-239.keys240
+
+pub returns-in-240 : goal.returns-in-240
+unfolding small_sizes medium_sizes near entered
+returns-in-240 c = rw c.in-240.keys241
+
+pub returns-in-241 : goal.returns-in-241
+unfolding small_sizes medium_sizes near entered
+returns-in-241 c = rw c.in-241.keys242
+
+pub returns-in-242 : goal.returns-in-242
+unfolding small_sizes medium_sizes near entered
+returns-in-242 c = rw c.in-242.keys243
+
+pub returns-in-243 : goal.returns-in-243
+unfolding small_sizes medium_sizes near entered
+returns-in-243 c = rw c.in-243.keys244
+
+pub returns-in-244 : goal.returns-in-244
+unfolding small_sizes medium_sizes near entered
+returns-in-244 c = rw c.in-244.keys245
+
+pub returns-in-245 : goal.returns-in-245
+unfolding small_sizes medium_sizes near entered
+returns-in-245 c = rw c.in-245.keys246
+
+pub returns-in-246 : goal.returns-in-246
+unfolding small_sizes medium_sizes near entered
+returns-in-246 c = rw c.in-246.keys247
+
+pub returns-in-247 : goal.returns-in-247
+unfolding small_sizes medium_sizes near entered
+returns-in-247 c = rw c.in-247.keys248
+
+pub returns-in_default : goal.returns-in_default
+unfolding small_sizes medium_sizes near entered
+returns-in_default c = let e : c.args.step ≡ 248 = omega (arith, past _ 248 c.in_default.rest) in rw e

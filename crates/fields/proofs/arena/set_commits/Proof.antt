@@ -1,9 +1,0 @@
-use Rattle.facts.proofs.Prelude.{refl, needs}
-use Rattle.fields.specs.Field.{put}
-use Rattle.fields.proofs.arena.set_commits as f
-
-pub set-commits-spec : {M : Type 1} → f.Statement.statement M
-unfolding put
-set-commits-spec =
-    f.Tie.close
-    (f.Tie.spec (λ c. search needs) (λ c. search needs) (λ c. search needs) (λ c. search needs) (λ c. search needs) (λ c. refl))

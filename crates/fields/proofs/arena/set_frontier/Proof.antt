@@ -1,9 +1,0 @@
-use Rattle.facts.proofs.Prelude.{refl, needs}
-use Rattle.fields.specs.Field.{put}
-use Rattle.fields.proofs.arena.set_frontier as f
-
-pub set-frontier-spec : {M : Type 1} → f.Statement.statement M
-unfolding put
-set-frontier-spec =
-    f.Tie.close
-    (f.Tie.spec (λ c. search needs) (λ c. search needs) (λ c. refl))

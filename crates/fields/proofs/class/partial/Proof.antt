@@ -1,9 +1,0 @@
-use borrow.Author.Rules.{rules}
-use Rattle.fields.specs.Field.{get}
-use Rattle.fields.proofs.class.partial as f
-
-pub partial-spec : {M : Type 1} → f.Statement.statement M
-unfolding get
-partial-spec =
-    f.Tie.close
-    (f.Tie.spec (λ c κs. search rules) (λ c. search rules) (λ c. search rules) (λ c. rw c.before.class-word.ensures))

@@ -1,9 +1,0 @@
-use borrow.Author.Rules.{rules}
-use Rattle.fields.specs.Field.{put}
-use Rattle.fields.proofs.hole.set_start as f
-
-pub set-start-spec : {M : Type 1} → f.Statement.statement M
-unfolding put
-set-start-spec =
-    f.Tie.close
-    (f.Tie.spec (λ c κs. search rules) (λ c. search rules) (λ c. search rules) (λ c. search rules) (λ c. rw c.hole-word.ensures))

@@ -1,9 +1,0 @@
-use borrow.Author.Rules.{rules}
-use Rattle.fields.specs.Field.{get}
-use Rattle.fields.proofs.page.prev as f
-
-pub prev-spec : {M : Type 1} → f.Statement.statement M
-unfolding get
-prev-spec =
-    f.Tie.close
-    (f.Tie.spec (λ c κs. search rules) (λ c. search rules) (λ c. search rules) (λ c. rw c.before.page-word.ensures))
