@@ -17,7 +17,7 @@ pub span_pages_for-requires : goal.span_pages_for-requires
 span_pages_for-requires c = search most_bytes
 
 pub medium_capacity_for-requires : goal.medium_capacity_for-requires
-medium_capacity_for-requires c = (omega (arith, some_bytes _ _ c.block_bytes-size.ensures), search most_bytes)
+medium_capacity_for-requires c = record { size_nonzero = omega (arith, some_bytes _ _ c.block_bytes-size.ensures); size_le_page_bytes = search most_bytes }
 
 pub returns : goal.returns
 returns c =
