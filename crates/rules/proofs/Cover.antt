@@ -43,8 +43,8 @@ its-row : (rs : List RuleRow) (c : ℕ) → rows_on rs c ≤ 1 → All (λ r. sp
 its-row [] c l = tt
 its-row (r ∷ rs) c l =
     by_cases (spans r c)
-    (λ t. rw t ((λ u. refl), no-others rs c (row_limits r) (let z : 1 + rows_on rs c ≤ 1 = rw t at l in omega arith)))
-    (λ t. rw t ((λ u. absurd (false≢true u)), its-row rs c (let z : 0 + rows_on rs c ≤ 1 = rw t at l in omega arith)))
+    (λ t. let e : limits_in (r ∷ rs) c ≡ row_limits r = rw t in subst (λ z. All (λ r'. spans r' c ≡ true → z ≡ row_limits r') (r ∷ rs)) (sym e) ((λ u. refl), no-others rs c (row_limits r) (let z : 1 + rows_on rs c ≤ 1 = rw t at l in omega arith)))
+    (λ t. let e : limits_in (r ∷ rs) c ≡ limits_in rs c = rw t in subst (λ z. All (λ r'. spans r' c ≡ true → z ≡ row_limits r') (r ∷ rs)) (sym e) ((λ u. absurd (false≢true (sym t ∙ u))), its-row rs c (let z : 0 + rows_on rs c ≤ 1 = rw t at l in omega arith)))
 
 -- ---- by the list's words: the rows from row i on
 module _ (ws : List ℕ) where
