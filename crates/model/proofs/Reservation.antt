@@ -238,10 +238,10 @@ module _ (size n : ℕ) (H : Heap) (es : List Entry) (f : ℕ → Bool) (l : ℕ
   settles-cond x false o p h k = k refl
 
   direct-refused : (x : Call) (k : ℕ) → Settles x (unchanged H (Calls.refused k))
-  direct-refused x k = record { tells = sym (refused-next _ H.arena.status refl) }
+  direct-refused x k = record { tells = sym (refused-next (event_of x (unchanged H (Calls.refused k))) H.arena.status refl) }
 
   direct-same : (x : Call) (a : Answer) → wants_run x ≡ false → Settles x (unchanged H a)
-  direct-same x a e = record { tells = sym (idle-next _ H.arena.status e) }
+  direct-same x a e = record { tells = sym (idle-next (event_of x (unchanged H a)) H.arena.status e) }
 
   direct-commit : (h m : ℕ) → Settles (Calls.commit h m) (commit_call size H h m)
   unfolding commit_call
@@ -256,11 +256,11 @@ module _ (size n : ℕ) (H : Heap) (es : List Entry) (f : ℕ → Bool) (l : ℕ
 
   direct-grow : (h q old new : ℕ) → Settles (Calls.grow_frontier h q old new) (grow_call size H h q old new)
   unfolding grow_call
-  direct-grow h q old new = record { tells = grow-status size h (q + old) (new - old) H.arena ∙ sym (idle-next _ H.arena.status refl) }
+  direct-grow h q old new = record { tells = grow-status size h (q + old) (new - old) H.arena ∙ sym (idle-next (event_of (Calls.grow_frontier h q old new) (grow_call size H h q old new)) H.arena.status refl) }
 
   direct-release : (h q m : ℕ) → Settles (Calls.release h q m) (release_call H q m)
   unfolding release_call
-  direct-release h q m = record { tells = give-status m q H.arena ∙ sym (idle-next _ H.arena.status refl) }
+  direct-release h q m = record { tells = give-status m q H.arena ∙ sym (idle-next (event_of (Calls.release h q m) (release_call H q m)) H.arena.status refl) }
 
   direct-tells : (x : Call) → Settles x (direct_call size H x)
   unfolding direct_call
@@ -278,7 +278,7 @@ module _ (size n : ℕ) (H : Heap) (es : List Entry) (f : ℕ → Bool) (l : ℕ
   direct-tells Calls.report = direct-same _ _ refl
 
   route-tells : (x : Call) {w : Way} → Goes x w → Tells x (route size H x w)
-  route-tells x (is_turned t) = sym (refused-next _ H.arena.status refl)
+  route-tells x (is_turned t) = sym (refused-next (event_of x (route size H x Calls.turned)) H.arena.status refl)
   route-tells x (is-straight t e) = (direct-tells x).tells
   route-tells x (is-class d t e) = class-tells x d.class d.request (host_of_lem x d e) (wants x d e)
 

@@ -331,7 +331,10 @@ module _ (sh : Shape) (ok : Sound sh) (lim : Limits) (paged : is_medium sh ≡ f
     }
     park_in_lem s p ToCold = record {
       busy = λ k. k;
-      cold = λ q. by_cases (is_medium sh) (λ e. rw e (omega arith)) (λ e. rw e (omega arith));
+      cold = λ q.
+          let z : cond (starts_at q p) (cold_one sh) 0 ≡ cond (starts_at q p) (one_if (went_cold (park_in sh h s p ToCold).fate)) 0 =
+          by_cases (is_medium sh) (λ e. rw e refl) (λ e. rw e refl) in
+          omega (arith, z);
       span = λ e. rw e refl;
       empties = λ z o k. ordered_beside p.first o (firsts s.empty) z k;
       colds = λ z o k. ordered_top p.first o (cold_firsts s.cold) z k;
