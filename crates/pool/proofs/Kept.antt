@@ -147,7 +147,12 @@ module _ (size : ℕ) (n k : ℕ) (P : Pool) (es gs : List Entry) (f : ℕ → B
           rw low
           (stock-kept (free h w) (give_back h (w ∷ [])) freed (w ∷ st) (λ v.
           by_cases (eqb v w)
-          (λ e. let same = eqb-true v w e in rw same (rw (eq-eqb w w refl) (omega (arith, t.0, t.2, own-gone k (pool_id c) (give_back h (w ∷ [])) (as_answer freed) gs w (rw (eq-eqb w w refl) (omega arith))))))
+          (λ e.
+          let d = pool_id c in
+          let after = next k d (give_back h (w ∷ [])) (as_answer freed) gs in
+          let at-w : total (is d w) es ≡ total (is d w) after + count w (w ∷ st) =
+          rw (eq-eqb w w refl) (omega (arith, t.0, t.2, own-gone k d (give_back h (w ∷ [])) (as_answer freed) gs w (rw (eq-eqb w w refl) (omega arith)))) in
+          subst (λ u. total (is d u) es ≡ total (is d u) after + count u (w ∷ st)) (sym (eqb-true v w e)) at-w)
           (λ e. rw e (omega (arith, K.split c v, own-stay k (pool_id c) (give_back h (w ∷ [])) (as_answer freed) gs v (rw e))))))
 
       -- a request that went to the heap, by one call
