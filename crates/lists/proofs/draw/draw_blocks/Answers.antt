@@ -1,0 +1,10 @@
+use Rattle.lists.proofs.DrawSteps.{draw-pre, draw-done}
+use Rattle.lists.proofs.draw.draw_blocks.Goals as goal
+
+pub give_blocks-requires : goal.give_blocks-requires
+give_blocks-requires c = search draw-pre
+
+pub returns : goal.returns
+returns c =
+    draw-done _ _ _ _ _ _ _ _ _ _ c.free-free.ensures c.carved-carved.ensures c.min-popped.ensures c.min-fresh.ensures _ _ _ _ c.requires
+    c.give_blocks.ensures c.set_free.ensures c.set_carved.ensures
