@@ -21,8 +21,7 @@ pub index_of-requires-2 : goal.index_of-requires-2
 index_of-requires-2 c = record { index_pre = search end-pre; w_value = search under-block }
 
 pub push_pairs-requires-2 : goal.push_pairs-requires-2
-push_pairs-requires-2 c =
-    (odd_pre _ _ _ _ _ c.requires.push_entries_pre c.if-n-eq0.false _ _ c.if-top-eq0.false c.set_entry-2.ensures, c.requires.list_value)
+push_pairs-requires-2 c = record { pairs_pre = odd_pre _ _ _ _ _ c.requires.push_entries_pre c.if-n-eq0.false _ _ c.if-top-eq0.false c.set_entry-2.ensures; list_value = c.requires.list_value }
 
 pub returns : goal.returns
 returns c = search push_odd

@@ -1,4 +1,4 @@
-use Rattle.facts.proofs.Prelude.{ℕ, ◌+◌, add-zero, List, ◌∷◌, ◌≡◌}
+use Rattle.facts.proofs.Prelude.{ℕ, ◌+◌, add-zero, List, [], ◌∷◌, ◌≡◌}
 use Rattle.fields.specs.Field.{page, slot, free, virgin, get, put}
 use Rattle.pages.specs.Stack.{pushed}
 use Rattle.lists.proofs.push.push_one.Goals as goal
