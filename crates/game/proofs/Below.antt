@@ -1,4 +1,4 @@
--- Laws of `someBelow` and `everyBelow`: one number more, as the loops go, and what they mean.
+-- Laws of `some_below` and `every_below`: one number more, as the loops go, and what they mean.
 use Rattle.facts.proofs.Prelude.{ℕ, zero, suc, ◌+◌, ◌<◌, arith, eq-or-lt_of_le, add-one, Bool, true, false, false≢true, ◌⊎◌, ⊎_elim, ◌≡◌, refl, by_cases, or_left, or_right, and_no}
 use Rattle.game.specs.Game.{some_below, every_below}
 

@@ -77,6 +77,7 @@ module _ (n limit : ℕ) where
       (some-found (releasing (wins n limit k) s) q n h (rw (ne_eqb _ _ nonzero, e) refl))
 
   pub of_forces : (k : ℕ) (s : State) → Forces n limit k s → wins n limit k s ≡ true
+  of_forces zero s f = elim f [ ]
   of_forces (suc k) s (unplaced p a none) = ask-wins k p s a
       (λ q h. by_cases (may_stand n s p q) (λ m. absurd (none q (place_of n s p q m))) (λ m. rw m refl))
   of_forces (suc k) s (asked p a all) = ask-wins k p s a
