@@ -1,6 +1,6 @@
 -- Lists gathered, and written one after the other as the loops go.
 use Rattle.facts.proofs.Prelude.{ℕ, zero, suc, ◌+◌, ◌-◌, ◌≤◌, ◌<◌, arith, eq-or-lt_of_le, add-one, List, [], ◌∷◌, ◌++◌, List-as-Memᴰ, List·Memᴰ·not-nil, List·Memᴰ·append-cases}
-use Rattle.facts.proofs.Prelude.{Memᴰ·append-left, Memᴰ·append-right, ◌⊎◌, ⊎_elim, ◌≡◌, refl, sym, ap, ◌∙◌, length, set, length-append, sets, length-sets}
+use Rattle.facts.proofs.Prelude.{Memᴰ·append-left, Memᴰ·append-right, ⊎_elim, ◌≡◌, refl, sym, ap, ◌∙◌, length, set, length-append, sets, length-sets}
 use Rattle.listing.specs.Listing.{gather, Wrote}
 
 sets-append : (l : List ℕ) (i : ℕ) (x y : List ℕ) → sets l i (x ++ y) ≡ sets (sets l i x) (i + length x) y

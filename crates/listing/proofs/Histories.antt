@@ -1,7 +1,7 @@
 -- The histories of each length, computed over the model's arena, are just those of specs/History; on any arena, whatever its rules.
 use Rattle.facts.proofs.Prelude.{ℕ, zero, suc, ◌+◌, ◌≤◌, ◌<◌, arith, List, [], ◌∷◌, ◌++◌, map, List-as-Memᴰ, List·Memᴰ·head}
 use Rattle.facts.proofs.Prelude.{List·Memᴰ·not-nil, List·Memᴰ·append-cases, List·Memᴰ·eq-of-singleton, Memᴰ·append-left, Memᴰ·append-right}
-use Rattle.facts.proofs.Prelude.{Memᴰ·map, Memᴰ·of-map, ◌⊎◌, ⊎_elim, Option, none, some, ◌≡◌, refl, sym, ap, subst, length}
+use Rattle.facts.proofs.Prelude.{Memᴰ·map, Memᴰ·of-map, ⊎_elim, Option, none, some, ◌≡◌, refl, sym, ap, subst, length}
 use Rattle.listing.specs.History.{Call, commit, release, Run, State, committed, released, History, over, commits, releases}
 use Rattle.listing.specs.Listing.{gather}
 use Rattle.listing.proofs.Gather.{gather_in, gather_of, Found}

@@ -1,6 +1,6 @@
 -- The computed histories stand in the order, on any arena.
 use Rattle.facts.proofs.Prelude.{ℕ, zero, suc, ◌<◌, arith, List, [], ◌∷◌, ◌++◌, List-as-Memᴰ, List·Memᴰ·head, List·Memᴰ·tail}
-use Rattle.facts.proofs.Prelude.{List·Memᴰ·not-nil, List·Memᴰ·append-cases, Memᴰ·of-map, ◌⊎◌, ⊎_elim, Option, none, some, ◌≡◌, refl, subst}
+use Rattle.facts.proofs.Prelude.{List·Memᴰ·not-nil, List·Memᴰ·append-cases, Memᴰ·of-map, ⊎_elim, Option, none, some, ◌≡◌, refl, subst}
 use Rattle.listing.specs.History.{Call, commit, release, Run, State, committed, released, First, kinds, pages, runs, Before, here, there, Ordered}
 use Rattle.listing.specs.Listing.{gather}
 use Rattle.listing.proofs.Gather.{gather_of}

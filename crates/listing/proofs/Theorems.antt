@@ -1,6 +1,6 @@
 -- What the listing writes is just the histories of the length, each once, in the order (`listing-is`). That the code's own state follows
 -- the model's arena is computed, for each arena and length: nothing else here goes by the arena's rules.
-use Rattle.facts.proofs.Prelude.{ℕ, zero, suc, ◌≤◌, arith, true, List, [], ◌∷◌, List-as-Memᴰ, ◌≡◌, refl, subst, leb, length, leb-true}
+use Rattle.facts.proofs.Prelude.{ℕ, zero, suc, ◌≤◌, arith, true, [], ◌∷◌, List-as-Memᴰ, ◌≡◌, refl, subst, leb, length, leb-true}
 use Rattle.model.specs.HoleStore.{least_fit, cut_from, lowest_that, place, insert, accepts}
 use Rattle.model.specs.Arena.{give, draw_from, draw, grant, commit_ready, commit_as, commit}
 use Rattle.listing.specs.History.{opened, committed, released, written, Lists}
