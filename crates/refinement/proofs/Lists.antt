@@ -10,6 +10,7 @@ use Rattle.refinement.specs.way.Chain.{In, Distinct, Segment}
 use Rattle.refinement.specs.way.Represents.{firsts, heads}
 
 pub in_left : (z : ℕ) (ys zs : List ℕ) → In z ys → In z (ys ++ zs)
+in_left z [] zs i = elim i [ ]
 in_left z (y ∷ ys) zs (inl e) = inl e
 in_left z (y ∷ ys) zs (inr i) = inr (in_left z ys zs i)
 
@@ -120,6 +121,7 @@ module _ (b : List ℕ) where
 
 -- ---- counts
 pub in_count : (x : ℕ) (xs : List ℕ) → In x xs → 1 ≤ count x xs
+in_count x [] i = elim i [ ]
 in_count x (y ∷ ys) (inl e) = rw (eq-eqb x y e) (omega arith)
 in_count x (y ∷ ys) (inr i) = let ih = in_count x ys i in omega arith
 

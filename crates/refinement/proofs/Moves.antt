@@ -160,6 +160,14 @@ listing-set : (n : ℕ) (b b₀ : List ℕ) (q v : ℕ) → leb (words n) (lengt
     → get (put b (page listed q) v) (page listed q) ≡ v
 listing-set n b b₀ q v hb hq e = get_put_same n b (page listed q) v (long_kept n b₀ b (sym (length-put b (page listed q) v) ∙ e) hb) hq refl
 
+-- a store's page: the step leaves every page's blocks alone
+park_run-off : (n : ℕ) {b : List ℕ} {c : ℕ} (sh : Shape) (k : Park) (q : ℕ) {b' : List ℕ} → Changes (is_park_run k c q) b b' → Off n sh c q b b'
+park_run-off n {b} {c} sh k q h = record {
+  same = whole-kept (park_run-owns k c q h) n sh c;
+  body = λ z d. park_run-body k c q h z;
+  listing = λ z d. park_run-listing k c q h z;
+}
+
 module _ {n : ℕ} {b : List ℕ} {c : ℕ} {sh : Shape} (s : Setting n b c sh) {k : Park} where
   pub from-partial : (ss : List Page) (p : Page) (ts : List Page) {xs ys fs : List Page} → ClassRep n b c sh k (ss ++ p ∷ ts) xs ys fs
       → ClassRep n (unlink b c p.first) c sh k (ss ++ ts) xs ys (p ∷ fs)
@@ -240,19 +248,11 @@ module _ {n : ℕ} {b : List ℕ} {c : ℕ} {sh : Shape} (s : Setting n b c sh) 
         runs = λ z. rw (o.same z) (omega (arith, r.runs z));
       }
 
-  -- a store's page: the step leaves every page's blocks alone
-  park_run-off : (q : ℕ) {b' : List ℕ} → Changes (is_park_run k c q) b b' → Off n sh c q b b'
-  park_run-off q h = record {
-    same = whole-kept (park_run-owns k c q h) n sh c;
-    body = λ z d. park_run-body k c q h z;
-    listing = λ z d. park_run-listing k c q h z;
-  }
-
   pub from-store : {p : Page} {ps xs ys fs : List Page} → ClassRep n b c sh k ps (p ∷ xs) ys fs → ClassRep n (pop_store b c k p.first) c sh k ps xs ys (p ∷ fs)
   from-store {p} {ps} {xs} {ys} {fs} r =
       let q = p.first in
       let h = pop_store-changes (is_park_run k c q) b c q s.row k (park_run_lets k c q) in
-      let o = park_run-off q h in
+      let o = park_run-off n sh k q h in
       let u = r.runs q in
       let f = digit-le (whole n b sh c q) in
       let i = itself q in
@@ -276,7 +276,7 @@ module _ {n : ℕ} {b : List ℕ} {c : ℕ} {sh : Shape} (s : Setting n b c sh) 
   to-store {p} {ps} {xs} {ys} {fs} idle few r =
       let q = p.first in
       let h = park_run-changes (is_park_run k c q) b c q s.row k (park_run_lets k c q) in
-      let o = park_run-off q h in
+      let o = park_run-off n sh k q h in
       let u = r.runs q in
       let f = digit-le (whole n b sh c q) in
       let i = itself q in
