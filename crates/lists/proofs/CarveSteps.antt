@@ -1,5 +1,5 @@
 -- The ways out of the functions that carve, and what their loops keep.
-use Rattle.facts.proofs.Prelude.{ℕ, ◌+◌, ◌-◌, ◌*◌, ◌/◌, ◌≤◌, ◌<◌, arith, add-one, Bool, true, List, ◌≡◌, refl, ap, ◌∙◌, length, eq-eqb, ne_eqb}
+use Rattle.facts.proofs.Prelude.{ℕ, ◌+◌, ◌*◌, ◌/◌, ◌≤◌, ◌<◌, arith, add-one, Bool, true, List, ◌≡◌, refl, ap, ◌∙◌, length, eq-eqb, ne_eqb}
 use mir.Val.{bool_byte}
 use Rattle.classes.specs.declared.Shape.{Shape}
 use Rattle.fields.specs.Field.{page, mark, slot, free, carved, virgin, listed, put}

@@ -1,5 +1,5 @@
 -- Booleans, counting, and sums over lists.
-use Rattle.facts.proofs.Prelude.{ℕ, ◌+◌, ◌-◌, ◌≤◌, arith, Bool, true, false, not, false≢true, true≢false, List, [], ◌∷◌, ◌++◌, reverse, reverse_aux, ◌≡◌, refl, sym, ap, ◌∙◌}
+use Rattle.facts.proofs.Prelude.{ℕ, ◌+◌, ◌≤◌, arith, Bool, true, false, not, false≢true, true≢false, List, [], ◌∷◌, ◌++◌, reverse, reverse_aux, ◌≡◌, refl, sym, ap, ◌∙◌}
 use Rattle.facts.proofs.Prelude.{eqb, take, drop, take-append-drop, eqb-true, not-true, not-false, filter, every, total, elem, distinct, count, by_cases, and_left, and_right}
 
 pub count-append : (w : ℕ) (s t : List ℕ) → count w (s ++ t) ≡ count w s + count w t

@@ -14,7 +14,7 @@ use Rattle.model.specs.Heap.{Heap, new_heap, nobody, direct, pass_to, with_pages
 use Rattle.model.specs.History as Histories
 use Rattle.model.specs.History.{events_from}
 use Rattle.model.specs.Entries.{Entry}
-use Rattle.model.specs.Remembered.{Memory, no_memory, commit}
+use Rattle.model.specs.Remembered.{Memory, no_memory}
 use Rattle.model.specs.Original.{Outcome, begun, as_model, offer, interact, class_call, commit_call, grow_call, release_call, direct_call, route, step, answers_from, acts_from, heap_from, original_acts, Alike, Equality}
 use Rattle.model.proofs.Tidy.{Tidy}
 use Rattle.model.proofs.HeapLaws.{Inv, start, step-inv}

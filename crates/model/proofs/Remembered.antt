@@ -10,7 +10,7 @@ use Rattle.model.specs.Arena as Arenas
 use Rattle.model.specs.Arena.{Status, unasked, ready, disabled, with_status, with_frontier, draw_from, can_grow}
 use Rattle.model.specs.BestFit.{LeastAt, Which, NoneFits}
 use Rattle.model.specs.Joining.{Touches}
-use Rattle.model.specs.Remembered.{Memory, still_holds, lesser, least_above, lowest_of, failing, Choice, choose, has_slot, gave, State, state, on_arena, holes_of, give, give_all, Given, given, draw_by, draw, grant, commit_ready, commit_as, commit, Grown, grow}
+use Rattle.model.specs.Remembered.{Memory, still_holds, lesser, least_above, lowest_of, failing, Choice, choose, has_slot, gave, State, on_arena, holes_of, give, give_all, Given, draw_by, draw, grant, commit_ready, commit_as, commit, Grown, grow}
 use Rattle.model.specs.Original.{Alike}
 use Rattle.model.proofs.Runs.{covers_in, covers-after}
 use Rattle.model.proofs.HoleLists.{num, all_map, set-total, at-total, set-length, set-differs, all-at}

@@ -1,6 +1,6 @@
 -- A take against the history: how many blocks it answers, and its virgin.
 use Rattle.facts.proofs.Prelude.{ℕ, ◌+◌, ◌-◌, ◌≤◌, ◌<◌, arith, Bool, true, false, ◌&&◌, true≢false, false≢true, List, [], ◌∷◌, ◌++◌, inl, inr, Option, none}
-use Rattle.facts.proofs.Prelude.{some, ◌≡◌, refl, sym, ap, ◌∙◌, subst, eqb, ltb, length, take, drop, length-append, length-reverse, length-take, length-drop}
+use Rattle.facts.proofs.Prelude.{some, ◌≡◌, refl, sym, ap, ◌∙◌, subst, eqb, ltb, length, drop, length-append, length-reverse, length-take, length-drop}
 use Rattle.facts.proofs.Prelude.{take-append_seam, eqb-true, eqb-false, eq-eqb, le-ltb, is_nil, All, total, elem, count, by_cases, and_left, and_right}
 use Rattle.facts.proofs.Bools.{and-false}
 use Rattle.words.specs.Host.{bad_host}

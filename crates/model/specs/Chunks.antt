@@ -1,5 +1,5 @@
 -- Group releases (`release_bin_chunks`; a group is a chunk here), and one request of a class.
-use Rattle.std.specs.Prelude.{ℕ, ◌+◌, List, [], ◌∷◌, ◌++◌, map, Bool, true, false, cond, not, ◌&&◌, ◌||◌, eqb, ltb, length, drop}
+use Rattle.std.specs.Prelude.{ℕ, List, [], ◌∷◌, ◌++◌, map, Bool, true, false, cond, not, ◌&&◌, ◌||◌, eqb, ltb, length, drop}
 use Rattle.std.proofs.Math.Option.{Option, none, some}
 use Rattle.facts.specs.Lists.{is_nil, filter, every, elem, distinct}
 use Rattle.words.specs.Word.{chunk_kind, count_of, page_of}

@@ -1,6 +1,6 @@
 -- One class and its takes (document 01, "Blocks out and back"). A class learns nothing of the heap but the run that it is given:
 -- its call is done, or asks the arena once and goes on with the answer.
-use Rattle.std.specs.Prelude.{ℕ, ◌+◌, ◌-◌, List, [], ◌∷◌, ◌++◌, Bool, true, false, cond, not, ◌&&◌, eqb, length, drop}
+use Rattle.std.specs.Prelude.{ℕ, ◌-◌, List, [], ◌∷◌, ◌++◌, Bool, true, false, cond, not, ◌&&◌, eqb, length, drop}
 use Rattle.std.proofs.Math.Option.{Option, none, some}
 use Rattle.classes.specs.declared.Shape.{Shape}
 use Rattle.model.specs.Calls.{Answer, refused, taken}

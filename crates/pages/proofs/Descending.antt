@@ -3,7 +3,7 @@
 --     length-descending, count-descending, descending-below
 --     every_append, every-reverse, every-mono
 --     small-counts   blocks are small where none above is counted
-use Rattle.facts.proofs.Prelude.{ℕ, zero, suc, ◌+◌, ◌-◌, ◌≤◌, ◌<◌, arith, add-zero, Bool, true, false, cond, List, [], ◌∷◌, ◌++◌, reverse, reverse_aux, ◌≡◌, refl, ap}
+use Rattle.facts.proofs.Prelude.{ℕ, zero, suc, ◌+◌, ◌≤◌, ◌<◌, arith, add-zero, Bool, true, false, cond, List, [], ◌∷◌, ◌++◌, reverse, reverse_aux, ◌≡◌, refl, ap}
 use Rattle.facts.proofs.Prelude.{eqb, ltb, length, lt-ltb, le-ltb, ltb-true, ltb-false, eq-eqb, eqb-true, eqb-false, every, count, by_cases, and_left, and_right}
 use Rattle.words.specs.Host.{digit}
 use Rattle.pages.specs.Stack.{descending}

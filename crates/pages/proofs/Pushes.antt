@@ -2,7 +2,7 @@
 --     length_push, push-changes, push_kept
 --     push-under           entries below the old top are as they were
 --     top-entries-push     what was pushed on is on top
-use Rattle.facts.proofs.Prelude.{ℕ, suc, ◌+◌, ◌-◌, ◌≤◌, ◌<◌, arith, Bool, true, false, List, [], ◌∷◌, ◌++◌, ◌≡◌, refl}
+use Rattle.facts.proofs.Prelude.{ℕ, suc, ◌+◌, ◌≤◌, ◌<◌, arith, Bool, true, false, List, [], ◌∷◌, ◌++◌, ◌≡◌, refl}
 use Rattle.facts.proofs.Prelude.{ap, ◌∙◌, eqb, ltb, leb, length, lt-ltb, ltb-true, ne_eqb, every, and_left, and_right}
 use Rattle.fields.specs.Field.{Field, region, slot, get, put, ok, words}
 use Rattle.fields.proofs.Laws.{get_put_same, get-put_other, length-put}

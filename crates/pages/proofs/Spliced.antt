@@ -3,7 +3,7 @@
 --     spliced-none      no words
 --     spliced-one       one word
 --     spliced-twice     words right before those
-use Rattle.facts.proofs.Prelude.{ℕ, ◌+◌, ◌-◌, ◌≤◌, ◌<◌, arith, add-zero, add-one, List, [], ◌∷◌, ◌++◌, append_assoc, ◌≡◌, sym, ap, ◌∙◌, length, take, drop}
+use Rattle.facts.proofs.Prelude.{ℕ, ◌+◌, ◌≤◌, ◌<◌, arith, add-zero, add-one, List, [], ◌∷◌, ◌++◌, append_assoc, ◌≡◌, sym, ap, ◌∙◌, length, take, drop}
 use Rattle.facts.proofs.Prelude.{set, length-append, length-take, length-drop, take-append-drop, length-take-le, take-append-le, drop_at, take-take, set_split}
 use Rattle.pages.specs.Stack.{spliced}
 

@@ -4,7 +4,7 @@
 --     popped-more           one more popped, in the order of a list that has the latest first
 --     every-top-entries     what holds of them all holds of each
 --     top-entries-kept      where the entries below the top are as they were
-use Rattle.facts.proofs.Prelude.{ℕ, zero, suc, ◌+◌, ◌-◌, ◌≤◌, ◌<◌, min, arith, Bool, true, List, [], ◌∷◌, ◌++◌}
+use Rattle.facts.proofs.Prelude.{ℕ, zero, suc, ◌-◌, ◌≤◌, ◌<◌, min, arith, Bool, true, List, [], ◌∷◌, ◌++◌}
 use Rattle.facts.proofs.Prelude.{reverse, reverse-append, ◌≡◌, refl, ap, ◌∙◌, length, every, and_left, and_right}
 use Rattle.fields.specs.Field.{slot, get}
 use Rattle.pages.specs.Stack.{top_entries}

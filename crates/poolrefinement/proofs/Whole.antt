@@ -1,5 +1,5 @@
 -- Every request on the words is the model's, after every history: so number 13 never answers.
-use Rattle.facts.proofs.Prelude.{ℕ, zero, suc, ◌+◌, ◌≤◌, arith, Bool, true, false, cond, not, List, [], ◌∷◌, ◌++◌, ◌≡◌, refl, sym, ap, ◌∙◌, subst, ltb, length, not-false, by_cases}
+use Rattle.facts.proofs.Prelude.{ℕ, zero, suc, ◌≤◌, arith, Bool, true, false, cond, not, List, [], ◌∷◌, ◌++◌, ◌≡◌, refl, sym, ap, ◌∙◌, subst, ltb, length, not-false, by_cases}
 use Rattle.words.specs.Host.{bad_host}
 use Rattle.classes.specs.Shape.{shape_of, class_count, pool_id}
 use Rattle.rules.specs.Rules.{Rules}

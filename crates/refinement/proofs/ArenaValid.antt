@@ -4,7 +4,7 @@
 --     commit-passes                  all that a commit tests
 --     give-passes, grow-passes       all that a give of held pages tests; all that a growth tests
 use Rattle.facts.proofs.Prelude.{ℕ, ◌+◌, ◌≤◌, arith, true, List, [], ◌∷◌, ◌≡◌, refl, sym, ap, ◌∙◌, leb, length, le-leb, every, All, total, by_cases}
-use Rattle.fields.specs.Field.{arena, state, frontier, holes, hole_pages, held, get}
+use Rattle.fields.specs.Field.{arena, frontier, holes, hole_pages, get}
 use Rattle.fields.specs.Ranges.{head_valid}
 use Rattle.fields.proofs.Sound.{head-made}
 use Rattle.words.specs.Limits.{hole_slots, hole_pages_max}

@@ -7,7 +7,6 @@ use native.Mathlib.Decide.{ℕ_discrete}
 use Rattle.words.specs.Limits.{class_rows}
 use Rattle.classes.specs.Shape.{shape_of}
 use Rattle.classes.proofs.Shapes.{shape-sound}
-use Rattle.fields.specs.Field.{arena}
 use Rattle.model.specs.Class.{Class}
 use Rattle.model.specs.Heap.{Heap}
 use Rattle.refinement.specs.way.Represents.{StateRep, Represents}

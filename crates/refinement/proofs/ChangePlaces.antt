@@ -11,7 +11,6 @@ use Rattle.rules.specs.Rules.{Rules}
 use Rattle.fields.specs.Ranges.{max_pages}
 use Rattle.model.specs.Calls as Calls
 use Rattle.model.specs.Calls.{Call, Named, named, names, host_in, way_of, Request, take, give_back, give_chunks, host_of}
-use Rattle.model.specs.Chunks as Chunks
 use Rattle.model.specs.Chunks.{answer}
 use Rattle.model.specs.Heap.{Heap, class_call, step, new_heap}
 use Rattle.model.specs.History.{heap_after}

@@ -11,7 +11,7 @@ use Rattle.words.specs.Word.{chunk_kind, count_of, page_of}
 use Rattle.classes.specs.Shape.{small_shape, shape_of, class_count}
 use Rattle.rules.specs.declared.Limits.{Limits}
 use Rattle.rules.specs.Rules.{Rules}
-use Rattle.fields.specs.Field.{arena, class, page, free, carved, get}
+use Rattle.fields.specs.Field.{page, free, carved, get}
 use Rattle.fields.specs.Ranges.{max_pages}
 use Rattle.fields.proofs.Changes.{changes-none}
 use Rattle.model.specs.Calls as Calls

@@ -9,7 +9,7 @@ use Rattle.model.specs.Cover.{in_run, covers}
 use Rattle.classes.specs.declared.Shape.{Shape}
 use Rattle.classes.specs.Shape.{shape_of}
 use Rattle.classes.proofs.Shapes.{shape-sound}
-use Rattle.fields.specs.Field.{arena, page, owner, get}
+use Rattle.fields.specs.Field.{page, owner, get}
 use Rattle.fields.proofs.Changes.{Changes, changes-none}
 use Rattle.model.specs.Calls as Calls
 use Rattle.model.specs.Calls.{Call, Answer, refused}

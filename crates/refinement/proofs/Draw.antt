@@ -12,7 +12,7 @@ use Rattle.model.specs.Page as Model
 use Rattle.model.specs.Page.{Page, word_of, pop}
 use Rattle.model.proofs.Counts.{count-append, count-reverse, count_cut}
 use Rattle.words.specs.Host.{digit}
-use Rattle.pages.specs.Stack.{out_bit, descending, set_outs, carved_now, latest, draw, has_more}
+use Rattle.pages.specs.Stack.{out_bit, descending, set_outs, latest, draw, has_more}
 use Rattle.pages.proofs.Descending.{digit-le, digit_false, length-descending, count-descending, every-below}
 use Rattle.pages.proofs.Draws.{draw-changes, draw-free, draw-carved}
 use Rattle.pages.proofs.SetOuts.{set_outs-at}

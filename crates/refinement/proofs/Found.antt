@@ -8,7 +8,6 @@ use Rattle.facts.proofs.Prelude.{ℕ, ◌+◌, ◌≤◌, arith, Bool, true, fal
 use Rattle.facts.proofs.Prelude.{sym, ap, ◌∙◌, subst, eqb, leb, eq-eqb, eqb-true, leb-true, leb-false, every, All, is_some, by_cases, bool_eq, and_left, and_right}
 use Rattle.classes.specs.declared.Shape.{Shape}
 use Rattle.fields.specs.Ranges.{max_pages}
-use Rattle.fields.specs.Field.{page}
 use Rattle.fields.proofs.Changes.{Changes, changes-none}
 use Rattle.model.specs.Page.{Page, is_out, reused}
 use Rattle.model.specs.Class.{Class, thawed}

@@ -9,7 +9,7 @@ use Rattle.facts.proofs.Prelude.{ap, ◌∙◌, eqb, ltb, leb, eqb·zero-suc, ne
 use Rattle.words.specs.Limits.{class_rows}
 use Rattle.classes.specs.declared.Shape.{Shape}
 use Rattle.classes.specs.way.Sound.{Sound}
-use Rattle.fields.specs.Field.{ClassField, class, page, partial, owner, next, prev, free, carved, listed, virgin, get, class_off}
+use Rattle.fields.specs.Field.{ClassField, class, page, partial, owner, next, prev, listed, get, class_off}
 use Rattle.model.specs.Page.{Page}
 use Rattle.model.proofs.Pages.{all_append}
 use Rattle.words.specs.Host.{digit}

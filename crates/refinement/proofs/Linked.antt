@@ -1,7 +1,7 @@
 -- The linked lists after a page came in or went out.
 --     chain-linked, chain-unlinked     the partial list, with a page at its head, and without one of its pages
 --     stack-parked, stack-popped       a store, with a page on top, and without its newest
-use Rattle.facts.proofs.Prelude.{ℕ, zero, suc, ◌+◌, ◌-◌, ◌<◌, arith, add-one, true, false, List, [], ◌∷◌, ◌++◌, ◌⊎◌, inl, inr}
+use Rattle.facts.proofs.Prelude.{ℕ, zero, suc, ◌-◌, ◌<◌, arith, add-one, true, false, List, [], ◌∷◌, ◌++◌, inl, inr}
 use Rattle.facts.proofs.Prelude.{⊎_elim, ◌≡◌, refl, sym, ap, subst, ◌∙◌, eqb, ltb, leb, length, ltb-true, lt-ltb, ne_eqb}
 use Rattle.words.specs.Limits.{class_rows}
 use Rattle.fields.specs.Field.{class, page, partial, next, prev, words, get}

@@ -7,10 +7,9 @@ use Rattle.words.specs.Word.{page_of}
 use Rattle.classes.specs.declared.Shape.{Shape}
 use Rattle.classes.specs.Shape.{small_shape, shape_of, class_count}
 use Rattle.rules.specs.declared.Limits.{Limits}
-use Rattle.fields.specs.Field.{page, first}
+use Rattle.fields.specs.Field.{first}
 use Rattle.fields.specs.Ranges.{max_pages}
 use Rattle.fields.proofs.Changes.{changes-none}
-use Rattle.model.specs.Calls.{fates}
 use Rattle.model.specs.Page.{Page, is_medium}
 use Rattle.model.specs.Class.{Class}
 use Rattle.model.specs.Release.{Settled}

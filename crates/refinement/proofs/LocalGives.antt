@@ -6,7 +6,7 @@ use Rattle.facts.proofs.Prelude.{ℕ, suc, ◌≤◌, arith, Bool, true, cond, L
 use Rattle.words.specs.Limits.{hole_slots}
 use Rattle.classes.specs.Shape.{shape_of}
 use Rattle.classes.proofs.Shapes.{shape-sound}
-use Rattle.fields.specs.Field.{arena, holes, owner, get}
+use Rattle.fields.specs.Field.{arena, holes, get}
 use Rattle.model.specs.Cover.{covers}
 use Rattle.model.specs.Page.{Page}
 use Rattle.model.specs.Class.{Class, Result, done}

@@ -1,10 +1,9 @@
 -- A take that asks the arena keeps to the class's words, the arena's, and those of the pages that nobody holds.
-use Rattle.facts.proofs.Prelude.{ℕ, suc, ◌+◌, ◌-◌, ◌<◌, arith, Bool, true, List, [], ◌∷◌, Option, none, some, ◌≡◌, refl, sym, ◌∙◌, subst, ltb, le-leb, lt-ltb}
+use Rattle.facts.proofs.Prelude.{ℕ, suc, ◌+◌, ◌<◌, arith, Bool, true, List, [], ◌∷◌, Option, none, some, ◌≡◌, refl, sym, ◌∙◌, subst, ltb, le-leb, lt-ltb}
 use native.Mathlib.Decide.{ℕ_discrete}
 use Rattle.words.specs.Limits.{class_rows}
 use Rattle.classes.specs.Shape.{shape_of}
 use Rattle.classes.proofs.Shapes.{shape-sound}
-use Rattle.fields.specs.Field.{arena, frontier}
 use Rattle.model.specs.Page.{Page, carve}
 use Rattle.model.specs.Arena.{commit, Given}
 use Rattle.model.specs.Heap.{Heap, nobody}

@@ -20,7 +20,6 @@ use Rattle.model.proofs.Update.{other_way, update_other}
 use Rattle.arena.specs.Owners.{owner_code}
 use Rattle.pages.specs.Runs.{whole}
 use Rattle.calls.specs.Take.{take_new}
-use Rattle.calls.specs.Chunks.{release_chunks}
 use Rattle.refinement.specs.way.Represents.{StateRep, Represents}
 use Rattle.refinement.specs.Run.{class_reply}
 use Rattle.refinement.proofs.ArenaReached.{Reached}

@@ -1,13 +1,11 @@
 -- A take from the class's own pages keeps to the class's words.
 use Rattle.facts.proofs.Prelude.{ℕ, Bool, true, false, true≢false, List, [], ◌∷◌, map, ◌⊎◌, inl, inr, ◌≡◌, refl, sym, ltb, length, by_cases}
 use Rattle.classes.specs.declared.Shape.{Shape}
-use Rattle.fields.specs.Field.{partial}
 use Rattle.fields.specs.Ranges.{head_valid}
 use Rattle.model.specs.Page.{Page, reused}
 use Rattle.model.specs.Class as Model
 use Rattle.model.specs.Class.{Class, Ask, done, asks, lists, thawed, take_from}
 use Rattle.model.specs.Demands.{StaysHome, stays}
-use Rattle.pages.specs.declared.Park.TheVariants.{Cold}
 use Rattle.calls.specs.Take.{take_new, take_blocks, take_call}
 use Rattle.refinement.specs.way.Represents.{StateRep}
 use Rattle.refinement.proofs.Basics.{Setting}

@@ -6,7 +6,7 @@ use Rattle.facts.proofs.Prelude.{ℕ, zero, suc, ◌+◌, ◌-◌, ◌≤◌, ar
 use Rattle.facts.proofs.Prelude.{length, take, eq-eqb, ne_eqb, ltb-false, le-leb, lt-ltb, is_nil, All, count, by_cases, or_left, or_right}
 use Rattle.classes.specs.declared.Shape.{Shape}
 use Rattle.classes.specs.way.Sound.{Sound}
-use Rattle.fields.specs.Field.{arena, class, page, free, carved, next, frontier, get}
+use Rattle.fields.specs.Field.{arena, class, page, next, frontier, get}
 use Rattle.model.specs.Page as Page
 use Rattle.model.specs.Page.{Page, word_of}
 use Rattle.model.proofs.Counts.{count_cut}

@@ -12,7 +12,7 @@ use Rattle.model.specs.Page.{is_medium, carve_as, carve}
 use Rattle.pages.specs.Runs.{whole}
 use Rattle.pages.specs.Stack.{out_bit, descending, push}
 use Rattle.pages.specs.Carve.{carved_at_once, carve_anew, out_words}
-use Rattle.pages.proofs.Descending.{digit_false, length-descending, small}
+use Rattle.pages.proofs.Descending.{digit_false, length-descending}
 use Rattle.pages.proofs.Pushes.{length_push, push_kept}
 use Rattle.pages.proofs.Frames.{at_once-le, changes-carve}
 use Rattle.refinement.specs.way.Represents.{Slots, Holds, PageRep}

@@ -1,7 +1,6 @@
 -- A take from the class's own pages: on a represented book 13 never answers, and answer and book are the model's.
 use Rattle.facts.proofs.Prelude.{ℕ, arith, true, List, [], ◌∷◌, map, ◌≡◌, refl}
 use Rattle.classes.specs.declared.Shape.{Shape}
-use Rattle.fields.specs.Field.{class}
 use Rattle.fields.specs.Ranges.{head_valid}
 use Rattle.model.specs.Calls.{taken}
 use Rattle.model.specs.Page.{Page, reused}
