@@ -61,8 +61,9 @@ unfolding load_holes
 loaded_set n b hb j i zero v l u = refl
 loaded_set n b hb j zero (suc k) v l u =
     let o : ltb j hole_slots ≡ true = lt-ltb j hole_slots (omega arith) in
-    rw (add-zero, hole-there n b j v hb o)
-    (ap (λ hs. v ∷ hs) (holes-same b (store_hole b j v) (suc j) k (omega arith) (λ f x y z. hole-other n b j x f v o y (ne_eqb j x (λ e. omega arith)))))
+    let same_rest = ap (λ hs. v ∷ hs) (holes-same b (store_hole b j v) (suc j) k (omega arith) (λ f x y z. hole-other n b j x f v o y (ne_eqb j x (λ e. omega arith)))) in
+    let here : load_holes (store_hole b j v) j (suc k) ≡ set_at zero v (load_holes b j (suc k)) = rw (hole-there n b j v hb o) same_rest in
+    ap (λ (z : ℕ). load_holes (store_hole b z v) j (suc k)) (add-zero j) ∙ here
 loaded_set n b hb j (suc i) (suc k) v l u =
     let o : ltb (j + suc i) hole_slots ≡ true = lt-ltb (j + suc i) hole_slots u in
     let d : ltb j hole_slots ≡ true = lt-ltb j hole_slots (omega arith) in

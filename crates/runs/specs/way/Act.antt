@@ -5,7 +5,7 @@ use Rattle.std.specs.Prelude.{◌≡◌, ℕ, zero, suc, ◌+◌, ◌-◌, ◌�
 use Rattle.std.proofs.Math.Option.{none, some}
 use Rattle.words.specs.Limits.{max_pages}
 use Rattle.words.specs.Host.{reservation_granted, commit_granted}
-use Rattle.fields.specs.Field.{arena, frontier, held, get, put}
+use Rattle.fields.specs.Field.{arena, held, get, put}
 use Rattle.model.specs.HoleStore as Model
 use Rattle.model.specs.HoleStore.{hole_slots, hole_pages_max, with_before, with_after, with_both}
 use Rattle.model.specs.declared.Hole.{Hole}

@@ -1,0 +1,5 @@
+use Rattle.std.proofs.Common.{rules}
+use Rattle.runs.proofs.give.join_before.Goals as goal
+
+pub returns : goal.returns
+returns c = (cc, search rules)

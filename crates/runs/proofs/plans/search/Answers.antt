@@ -1,0 +1,20 @@
+use Rattle.runs.proofs.Planning.{searches_start, part-again, part_no, one_again, one-no, searches_done}
+use Rattle.runs.proofs.plans.search.Goals as goal
+
+pub loop-left-init : goal.loop-left-init
+loop-left-init c = search searches_start
+
+pub returns-then-not-part_valid : goal.returns-then-not-part_valid
+returns-then-not-part_valid c = search part_no
+
+pub loop-left-preserved : goal.loop-left-preserved
+loop-left-preserved c = search part-again
+
+pub returns-then-not-hole_valid : goal.returns-then-not-hole_valid
+returns-then-not-hole_valid c = search one-no
+
+pub loop-left-2-preserved : goal.loop-left-2-preserved
+loop-left-2-preserved c = search one_again
+
+pub returns : goal.returns
+returns c = search searches_done
