@@ -3,7 +3,7 @@
 --     clears-run    clearing the marks by words gives back the book
 --     all-fresh, not-marked, not-repeated    all marked: none of numbers 13 (a mark), 15, 10 and 11 applies
 use Rattle.facts.proofs.Prelude.{ℕ, zero, suc, ◌+◌, ◌*◌, ◌/◌, ◌%◌, ◌≤◌, ◌<◌, arith, Bool, true, false, not, ◌&&◌, and-false, List, [], ◌∷◌, map, ◌≡◌, refl, sym, ap, ◌∙◌}
-use Rattle.facts.proofs.Prelude.{eqb, ltb, leb, length, get_or, set, set-get_or, set-set, eqb-true, lt-ltb, eq-eqb, ne_eqb, every, and_left, and_right, every-same, every_made}
+use Rattle.facts.proofs.Prelude.{subst, eqb, ltb, leb, length, get_or, set, set-get_or, set-set, eqb-true, lt-ltb, eq-eqb, ne_eqb, every, and_left, and_right, every-same, every_made}
 use native.Mathlib.Decide.{ℕ_discrete}
 use lib.Bits.{bit_xor, xor_zero_r}
 use Rattle.classes.specs.declared.Shape.{Shape}
@@ -83,7 +83,9 @@ unfolding clear_marks
 clear-past b q zero j v h l = absurd (omega arith)
 clear-past b q (suc m) j v h l =
     elim (ℕ_discrete j m) [
-      | yes z ↦ rw z (ap (λ d. put d (mark q m) 0) (clear_later b q m m v (omega arith) (omega arith)) ∙ twice (clear_marks b q m) q m v 0)
+      | yes z ↦
+        subst (λ x. clear_marks (put b (mark q x) v) q (suc m) ≡ clear_marks b q (suc m)) (sym z)
+        (ap (λ d. put d (mark q m) 0) (clear_later b q m m v (omega arith) (omega arith)) ∙ twice (clear_marks b q m) q m v 0)
       | no z ↦ ap (λ d. put d (mark q m) 0) (clear-past b q m j v (omega arith) (omega arith))
     ]
 

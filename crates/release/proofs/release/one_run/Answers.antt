@@ -1,0 +1,20 @@
+use Rattle.release.proofs.ReleaseSteps.{some-listed, first_fits, first-pre, start-pre, other-run, this_run}
+use Rattle.release.proofs.release.one_run.Goals as goal
+
+pub bounds-list-0 : goal.bounds-list-0
+bounds-list-0 c = search some-listed
+
+pub page_within-requires : goal.page_within-requires
+page_within-requires c = search first_fits
+
+pub first-q-requires : goal.first-q-requires
+first-q-requires c = search first-pre
+
+pub of_one_run-requires : goal.of_one_run-requires
+of_one_run-requires c = search start-pre
+
+pub returns-then-of_one_run : goal.returns-then-of_one_run
+returns-then-of_one_run c = search this_run
+
+pub returns : goal.returns
+returns c = search other-run

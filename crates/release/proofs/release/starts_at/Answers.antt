@@ -1,0 +1,11 @@
+use Rattle.release.proofs.EverySteps.{page-fits, first-there, start-told}
+use Rattle.release.proofs.release.starts_at.Goals as goal
+
+pub page_within-requires : goal.page_within-requires
+page_within-requires c = search page-fits
+
+pub first-requires : goal.first-requires
+first-requires c = search first-there
+
+pub returns : goal.returns
+returns c = search start-told

@@ -1,0 +1,15 @@
+use Rattle.take.proofs.TakeSteps.{first_some, first-unparks, unparked-first, listed-first}
+use Rattle.take.proofs.call.unpark_first.Goals as goal
+
+pub overflow_sub-q : goal.overflow_sub-q
+overflow_sub-q c = search first_some
+
+pub unpark_run-requires : goal.unpark_run-requires
+unpark_run-requires c =
+    first-unparks _ _ _ c.partial.ensures c.requires c.if-partial-eq0.true _ c.first_store-park.ensures _ c.store_top-q.ensures
+
+pub returns-then-partial-eq0 : goal.returns-then-partial-eq0
+returns-then-partial-eq0 c = search unparked-first
+
+pub returns-else-partial-eq0 : goal.returns-else-partial-eq0
+returns-else-partial-eq0 c = search listed-first
