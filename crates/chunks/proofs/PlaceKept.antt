@@ -60,7 +60,7 @@ module _ (b : List ℕ) (c : ℕ) where
       let e₃ = and_left (store_valid b c Cold) _ (and_right (store_valid b c Empty) _ e₁) in
       record {
         head = leb-true _ f (and_left _ _ e);
-        tops = λ k. elim k [ Empty ↦ leb-true _ f (and_left _ _ e₂) | Cold ↦ leb-true _ f (and_left _ _ e₃) ];
+        tops = λ k. elim k as (λ k. get b (class (top k) c) ≤ f) [ Empty ↦ leb-true _ f (and_left _ _ e₂) | Cold ↦ leb-true _ f (and_left _ _ e₃) ];
         counts = λ k. count_low b c k e;
         limits = limits-low b c e;
       }

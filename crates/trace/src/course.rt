@@ -6,8 +6,8 @@ ghost use Rattle.trace.specs.way.Steps.{lent};
 ghost use Rattle.trace.specs.way.Course.{Coursed, Ran};
 ghost use Rattle.trace.specs.way.Pre.{BookPre};
 
-use crate::lists::restore_kinds;
 use crate::steps::{Step, Tally, word};
+use crate::word_lists::restore_kinds;
 
 // How many words were carried out, and what they came to.
 #[derive(Clone, Copy)]

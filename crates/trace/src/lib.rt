@@ -3,5 +3,5 @@
 
 pub mod acts;
 pub mod course;
-mod lists;
 pub mod steps;
+mod word_lists;

@@ -8,7 +8,7 @@ ghost use Rattle.trace.specs.way.Pre.{BookPre, MorePre};
 ghost use Rattle.trace.specs.way.Steps.{lent, BlocksPre, TallyPre, Carried, CarriedBlocks, CarriedReport};
 
 use crate::acts::{back_now, class_at, take_now};
-use crate::lists::{flip_kind, is_block, paste};
+use crate::word_lists::{flip_kind, is_block, paste};
 use classes::CLASS_COUNT;
 use direct::Report;
 use release::Released;
