@@ -6,7 +6,7 @@ of RULES is tried in two ways:
 
     heap    the original's source with that rule changed is built as the stand-in (src/stand_in.rs), and runs the stored
             histories of crates/replay/stdin and the tests of editor/tests/boundaries
-    model   the rule's definition is changed in a copy of the crates, and `rt dev CRATE` checks the crate's theorems and
+    model   the rule's definition is changed in a copy of the crates, and `rt check` in CRATE checks its theorems and
             examples. A proof that follows the old definition's shape may fail too, so only what is stated otherwise counts:
             docs/DEMANDS.md says which that is. For some the statement is proved false of the changed definition
 
@@ -1405,20 +1405,19 @@ def replay(library, stored):
 
 
 class Models:
-    """A copy of the crates, with what was proved of them."""
+    """A copy of the crates. What `rt check` kept in the repository, a check of the copy begins with."""
 
     def __init__(self, work):
         self.folder = work / "model"
-        for part in ["crates", "target"]:
-            shutil.copytree(ROOT / part, self.folder / part, dirs_exist_ok=True)
+        shutil.copytree(ROOT / "crates", self.folder / "crates", dirs_exist_ok=True, ignore=shutil.ignore_patterns("out"))
         shutil.copy(ROOT / "crates.txt", self.folder)
 
     def place(self, name):
         return self.folder / name
 
     def check(self, crate):
-        """What `rt dev` refuses, by name; what only rests on it is left out."""
-        answer = run(["rt", "dev", crate], self.folder)
+        """What `rt check` refuses, by name; what only rests on it is left out."""
+        answer = run(["rt", "check"], self.place(f"crates/{crate}"))
         errors = re.findall(r"error: `([^`]+)`: (.*)", answer.stdout)
         names = dict.fromkeys(name for name, why in errors if "not admitted" not in why)
         if answer.returncode == 0 or names:
@@ -1432,7 +1431,7 @@ class Models:
         try:
             lib.write_text(before + "pub mod Denied\n")
             file.write_text(DENIED + proof.replace("UNFOLDING", UNFOLDING).lstrip())
-            answer = run(["rt", "dev", "model"], self.folder)
+            answer = run(["rt", "check"], self.place("crates/model"))
         finally:
             lib.write_text(before)
             file.unlink(missing_ok=True)
