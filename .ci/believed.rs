@@ -67,16 +67,16 @@ fn show((name, module): &Module) -> String {
     format!("crates/{name}/specs/{}.antt", module.replace('.', "/"))
 }
 
-/// The modules that a text names: `Rattle·words.specs.Word`, within its own crate `Rattle·words·specs.specs.Word`.
+/// The modules that a text names, as `Rattle.words.specs.Word`.
 fn imports(text: &str) -> Vec<Module> {
     let mut found = Vec::new();
-    for piece in text.split("Rattle·").skip(1) {
-        let path: String = piece.chars().take_while(|&c| c.is_alphanumeric() || "·._".contains(c)).collect();
+    for piece in text.split("Rattle.").skip(1) {
+        let path: String = piece.chars().take_while(|&c| c.is_alphanumeric() || "._".contains(c)).collect();
         let Some((name, rest)) = path.split_once(".specs.") else { continue };
         let mut parts = rest.split('.');
         let first = parts.next().unwrap_or("");
         let module = if first == "way" { format!("way.{}", parts.next().unwrap_or("")) } else { first.to_string() };
-        found.push((name.trim_end_matches("·specs").to_string(), module));
+        found.push((name.to_string(), module));
     }
     found
 }

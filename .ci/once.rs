@@ -5,6 +5,9 @@ use std::collections::BTreeMap;
 use std::path::{Path, PathBuf};
 use std::{env, fs, process};
 
+/// The files of a function's proof.
+const PROOFS: [&str; 3] = ["Proof.antt", "Answers.antt", "Invariants.antt"];
+
 /// A finding's key, and the places that share it.
 type Places = BTreeMap<String, Vec<(String, String)>>;
 
@@ -22,8 +25,8 @@ fn main() {
             continue; // the lookup tables: numbers alone
         }
         if place.ends_with(".antt") {
-            // a function's proof answers needs that Rattle names, so only its longer parts count
-            let least = if place.ends_with("Proof.antt") { 900 } else { 40 };
+            // a function's proof answers goals that Rattle names, so only its longer parts count
+            let least = if is_proof(&place) { 900 } else { 40 };
             for (top, name, head, body) in blocks(&text) {
                 // a short fact within a module speaks of its parameters
                 if body.len() > if top { least } else { least.max(120) } {
@@ -76,6 +79,12 @@ fn show(what: &str, all: &Places) -> usize {
         }
     }
     found
+}
+
+/// Whether a file is of a function's proof, which has a folder of its own: crates/NAME/proofs/F/Answers.antt.
+fn is_proof(place: &str) -> bool {
+    let parts: Vec<&str> = place.split('/').collect();
+    parts.len() > 4 && PROOFS.contains(&parts[parts.len() - 1])
 }
 
 fn is_comment(line: &str) -> bool {
@@ -153,7 +162,7 @@ fn unbound(text: &str) -> String {
 }
 
 fn is_part(c: char) -> bool {
-    c.is_alphanumeric() || matches!(c, '_' | '-' | '′' | '₀'..='₉')
+    c.is_alphanumeric() || matches!(c, '_' | '-' | '\'' | '₀'..='₉')
 }
 
 /// Puts `new` for each `old` that stands as a whole name.
@@ -206,13 +215,14 @@ fn idle(text: &str) -> Vec<String> {
         let Some((_, names)) = line.split_once(".{") else { continue };
         for name in names.trim_end_matches(['}', ';']).split(", ") {
             let name = name.rsplit(" as ").next().unwrap_or(name).trim();
-            let core = name.trim_matches('_');
+            // an operator has a ◌ for each operand
+            let core = name.trim_matches('◌');
             let there = if core.is_empty() || name == "tt" {
                 true // an instance, or the unit's own element
             } else if core == name {
                 replace(&body, name, "") != body
             } else {
-                core.split('_').all(|part| body.contains(part))
+                core.split('◌').all(|part| body.contains(part))
             };
             if !there {
                 found.push(name.to_string());

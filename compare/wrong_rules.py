@@ -6,7 +6,7 @@ of RULES is tried in two ways:
 
     heap    the original's source with that rule changed is built as the stand-in (src/stand_in.rs), and runs the stored
             histories of crates/replay/stdin and the tests of editor/tests/boundaries
-    model   the rule's definition is changed in a copy of the crates, and `rt dev CRATE` checks the crate's theorems and
+    model   the rule's definition is changed in a copy of the crates, and `rt check` in CRATE checks its theorems and
             examples. A proof that follows the old definition's shape may fail too, so only what is stated otherwise counts:
             docs/DEMANDS.md says which that is. For some the statement is proved false of the changed definition
 
@@ -56,10 +56,10 @@ ROWS = "crates/rules/specs/Rules.antt"
 ROWS_CODE = "crates/rules/src/rows.rt"
 # The tests of 15 and 10, in both of a class's releases.
 REPEATED = "(cond (repeats sh s ws) (refuse s 15)"
-FOREIGN = "(cond (not (every (outHere sh s) ws)) (refuse s 10)"
+FOREIGN = "(cond (not (every (out_here sh s) ws)) (refuse s 10)"
 # What a take is served where a page is partial, and where the first is empty.
-FROM_PARTIAL = "takeFrom sh l (p ∷ ps) es cs fs = done (served l (fillFromList sh (sh .batch) (p ∷ ps)) es cs fs)"
-FROM_EMPTY = "takeFrom sh l [] (e ∷ es) cs fs = done (served l (fillFromList sh (sh .batch) (reused sh e ∷ [])) es cs fs)"
+FROM_PARTIAL = "take_from sh l (p ∷ ps) es cs fs = done (served l (fill_from_list sh sh.batch (p ∷ ps)) es cs fs)"
+FROM_EMPTY = "take_from sh l [] (e ∷ es) cs fs = done (served l (fill_from_list sh sh.batch (reused sh e ∷ [])) es cs fs)"
 # The boundary tests that look into the book.
 BOOK_TESTS = [
     "ranges::",
@@ -90,83 +90,83 @@ class Rule:
 
 # What the proofs of `denied` begin with; `control` is refused whatever the definitions are.
 DENIED = """use Prim.Native.Nat.{ℕ}
-use mathlib.Core.Path.{_≡_, refl, sym, ap, _∙_}
-use mathlib.Core.List.{List, [], _∷_, _++_}
+use mathlib.Core.Path.{◌≡◌, refl, sym, ap, ◌∙◌}
+use mathlib.Core.List.{List, [], ◌∷◌, ◌++◌}
 use mathlib.Core.Option.{none}
 use mathlib.Core.Logic.{inl, inr}
 use mathlib.Core.Bool.{Bool, true, false, true≢false, false≢true}
 use native.Mathlib.Omega.{arith}
 use lib.Dec.{eqb}
-use lib.ListN.{getD}
+use lib.ListN.{get_or}
 use borrow.Author.Tests.{eqb-true}
-use Rattle·facts.specs.Lists.{total, elem}
-use Rattle·facts.proofs.Bools.{by-cases}
-use Rattle·words.specs.Word.{chunkWord}
-use Rattle·classes.specs.Sizes.{smallSizes, mediumSizes}
-use Rattle·classes.specs.Shape.{smallShape, mediumShape, shapeOf}
-use Rattle·rules.specs.Rules.{Rules, limits, plainRules}
-use Rattle·model·specs.specs.Calls as Calls
-use Rattle·model·specs.specs.Calls.{Call, Answer, takeBlocks, releaseBlocks, releaseBinChunks, commit, growFrontier}
-use Rattle·model·specs.specs.HoleStore as Holes
-use Rattle·model·specs.specs.Arena as Arenas
-use Rattle·model·specs.specs.Arena.{Status, unasked, ready, disabled}
-use Rattle·model·specs.specs.Page as Pages
-use Rattle·model·specs.specs.Page.{Page}
-use Rattle·model·specs.specs.Class as Classes
-use Rattle·model·specs.specs.Class.{lists}
-use Rattle·model·specs.specs.Destination as Destinations
-use Rattle·model·specs.specs.Release as Releases
-use Rattle·model·specs.specs.Chunks as Chunks
-use Rattle·model·specs.specs.Heap as Heaps
-use Rattle·model·specs.specs.History.{Event, events, withCall, heapAfter}
-use Rattle·model·specs.specs.Entries.{Entry, OutIn}
-use Rattle·model·specs.specs.Reservation.{Reserved}
-use Rattle·model·specs.specs.Counted.{Counted}
-use Rattle·model·specs.specs.Groups.{GroupsGive}
-use Rattle·model·specs.specs.Offered as Told
-use Rattle·model·specs.specs.Offered.{CleanBlock, gets, yieldsUp, renews, releasesTo, blocksAt, Used, Full}
-use Rattle·model·specs.specs.Sources.{Has, ComesFrom, IsPartial, IsEmpty, IsCold, Chilled, chills, draws, follows, Later}
-use Rattle·model·specs.specs.Demands.{Offered, Virgins, Sources}
-use Rattle·model·specs.specs.Examples.{smalls, rising, lent}
-use Rattle·model·proofs.proofs.Since.{sinceFrom, observed}
-use Rattle·model·proofs.proofs.Fold.{liveFrom, live-in}
-use Rattle·model·proofs.proofs.EntryCounts.{is, is-self, in-total}
+use Rattle.facts.specs.Lists.{total, elem}
+use Rattle.facts.proofs.Bools.{by_cases}
+use Rattle.words.specs.Word.{chunk_word}
+use Rattle.classes.specs.Sizes.{small_sizes, medium_sizes}
+use Rattle.classes.specs.Shape.{small_shape, medium_shape, shape_of}
+use Rattle.rules.specs.Rules.{Rules, limits, plain_rules}
+use Rattle.model.specs.Calls as Calls
+use Rattle.model.specs.Calls.{Call, Answer, take_blocks, release_blocks, release_bin_chunks, commit, grow_frontier}
+use Rattle.model.specs.HoleStore as Holes
+use Rattle.model.specs.Arena as Arenas
+use Rattle.model.specs.Arena.{Status, unasked, ready, disabled}
+use Rattle.model.specs.Page as Pages
+use Rattle.model.specs.Page.{Page}
+use Rattle.model.specs.Class as Classes
+use Rattle.model.specs.Class.{lists}
+use Rattle.model.specs.Destination as Destinations
+use Rattle.model.specs.Release as Releases
+use Rattle.model.specs.Chunks as Chunks
+use Rattle.model.specs.Heap as Heaps
+use Rattle.model.specs.History.{Event, events, with_call, heap_after}
+use Rattle.model.specs.Entries.{Entry, OutIn}
+use Rattle.model.specs.Reservation.{Reserved}
+use Rattle.model.specs.Counted.{Counted}
+use Rattle.model.specs.Groups.{GroupsGive}
+use Rattle.model.specs.Offered as Told
+use Rattle.model.specs.Offered.{CleanBlock, gets, yields_up, renews, releases_to, blocks_at, Used, Full}
+use Rattle.model.specs.Sources.{Has, ComesFrom, IsPartial, IsEmpty, IsCold, Chilled, chills, draws, follows, Later}
+use Rattle.model.specs.Demands.{Offered, Virgins, Sources}
+use Rattle.model.specs.Examples.{smalls, rising, lent}
+use Rattle.model.proofs.Since.{since_from, observed}
+use Rattle.model.proofs.Fold.{live_from, live_in}
+use Rattle.model.proofs.EntryCounts.{is, is_self, in_total}
 
 control : true ≡ false
 control = refl
 
 -- 71 blocks to a page
 abbrev take21 : Call
-take21 = takeBlocks 21 15 (lent 64)
+take21 = take_blocks 21 15 (lent 64)
 
-abbrev unaskedYet : Status → Bool
-unaskedYet unasked = true
-unaskedYet ready = false
-unaskedYet disabled = false
+abbrev unasked_yet : Status → Bool
+unasked_yet unasked = true
+unasked_yet ready = false
+unasked_yet disabled = false
 
-abbrev isContained : Answer → Bool
-isContained (Calls.refused n) = false
-isContained (Calls.taken n l v) = false
-isContained (Calls.fate n) = false
-isContained (Calls.fates l) = false
-isContained (Calls.run q f) = false
-isContained Calls.noRun = false
-isContained Calls.released = false
-isContained (Calls.grown b) = false
-isContained (Calls.contained b) = b
-isContained (Calls.reported f) = false
+abbrev is_contained : Answer → Bool
+is_contained (Calls.refused n) = false
+is_contained (Calls.taken n l v) = false
+is_contained (Calls.fate n) = false
+is_contained (Calls.fates l) = false
+is_contained (Calls.run q f) = false
+is_contained Calls.no_run = false
+is_contained Calls.released = false
+is_contained (Calls.grown b) = false
+is_contained (Calls.contained b) = b
+is_contained (Calls.reported f) = false
 
 """
 # What they unfold.
 UNFOLDING = (
-    "unfolding smallSizes mediumSizes smallShape mediumShape shapeOf plainRules Told.hasBlock Told.fated Calls.wayOf"
-    " Holes.{leastFit cutFrom lowestThat place insert accepts}"
-    " Arenas.{give drawFrom draw grant commitReady commitAs commit grow contains}"
-    " Pages.{wordOf carveAs carvedWords isOut noneOut hasMore carvedNow pop returned retire reused}"
-    " Classes.{after fillFromList served thawed onRun takeFrom} Destinations.{destinationOf}"
-    " Releases.{find inPartial inFull locate park settle ofKind outHere repeats onPage releaseList}"
-    " Chunks.{blocksOn chunkFits chunked settleChunk settleChunks releaseChunks answer}"
-    " Heaps.{newHeap offer finish interact classCall heldDirect badRun parkedPages commitCall growCall releaseCall directCall step}"
+    "unfolding small_sizes medium_sizes small_shape medium_shape shape_of plain_rules Told.has_block Told.fated Calls.way_of"
+    " Holes.{least_fit cut_from lowest_that place insert accepts}"
+    " Arenas.{give draw_from draw grant commit_ready commit_as commit grow contains}"
+    " Pages.{word_of carve_as carved_words is_out none_out has_more carved_now pop returned retire reused}"
+    " Classes.{after fill_from_list served thawed on_run take_from} Destinations.{destination_of}"
+    " Releases.{find in_partial in_full locate park settle of_kind out_here repeats on_page release_list}"
+    " Chunks.{blocks_on chunk_fits chunked settle_chunk settle_chunks release_chunks answer}"
+    " Heaps.{new_heap offer finish interact class_call held_direct bad_run parked_pages commit_call grow_call release_call direct_call step}"
 )
 UNFOLDING = re.sub(r"(\w+)\.\{([^}]*)\}", lambda m: " ".join(f"{m[1]}.{name}" for name in m[2].split()), UNFOLDING)
 
@@ -177,28 +177,28 @@ def not_offered(last):
         "Offered",
         f"""
 abbrev xs : List Call
-xs = take21 ∷ take21 ∷ releaseBlocks 21 15 (smalls (rising 60 57 {last})) ∷ take21 ∷ []
+xs = take21 ∷ take21 ∷ release_blocks 21 15 (smalls (rising 60 57 {last})) ∷ take21 ∷ []
 
 abbrev vs : List Event
-vs = events 1 plainRules xs
+vs = events 1 plain_rules xs
 
 abbrev w : ℕ
 w = {(1 << 62) + 3 + 57 * 65}
 
-none-live : total (is 21 w) (liveFrom 0 [] vs) ≡ 0
+none-live : total (is 21 w) (live_from 0 [] vs) ≡ 0
 UNFOLDING
 none-live = refl
 
 not-out : OutIn vs 21 w → ⊥
 not-out o =
-    let e = o .entry in
-    let m = in-total (is 21 w) e (liveFrom 0 [] vs) (live-in 0 e [] vs (o .live)) in
-    let one : is 21 w e ≡ 1 = rw (← o .class, ← o .word) (is-self e) in
+    let e = o.entry in
+    let m = in_total (is 21 w) e (live_from 0 [] vs) (live_in 0 e [] vs o.live) in
+    let one : is 21 w e ≡ 1 = rw (← o.class, ← o.word) (is_self e) in
     absurd (omega (arith, none-live))
 
-denied : Offered 1 plainRules xs → ⊥
+denied : Offered 1 plain_rules xs → ⊥
 UNFOLDING
-denied o = not-out (o .spent 21 .1 (record {{ partial = refl; empty = refl; cold = refl }}) .full 0 (inl (refl, refl)) w refl)
+denied o = not-out (((o.spent 21).1 (record {{ partial = refl; empty = refl; cold = refl }})).full 0 (inl (refl, refl)) w refl)
 """,
     )
 
@@ -207,27 +207,27 @@ NOT_VIRGIN = (
     "Virgins",
     f"""
 abbrev xs : List Call
-xs = take21 ∷ releaseBinChunks 21 15 (smalls (3 ∷ 60 ∷ 117 ∷ [])) (chunkWord 3 0 ∷ []) (9 ∷ []) ∷ []
+xs = take21 ∷ release_bin_chunks 21 15 (smalls (3 ∷ 60 ∷ 117 ∷ [])) (chunk_word 3 0 ∷ []) (9 ∷ []) ∷ []
 
 abbrev vs : List Event
-vs = withCall 4 plainRules xs take21
+vs = with_call 4 plain_rules xs take21
 
-at-zero : (q : ℕ) → sinceFrom (gets 21 q) (yieldsUp 21 q) false vs ≡ true → eqb 0 q ≡ true
+at-zero : (q : ℕ) → since_from (gets 21 q) (yields_up 21 q) false vs ≡ true → eqb 0 q ≡ true
 UNFOLDING
-at-zero q e = by-cases (eqb 0 q) (λ a. a) (λ a. absurd (false≢true (rw a at e)))
+at-zero q e = by_cases (eqb 0 q) (λ a. a) (λ a. absurd (false≢true (rw a at e)))
 
-not-clean : sinceFrom (renews 21 0) (releasesTo 21 0) false vs ≡ true → ⊥
+not-clean : since_from (renews 21 0) (releases_to 21 0) false vs ≡ true → ⊥
 UNFOLDING
 not-clean e = false≢true e
 
 no-clean : (w : ℕ) → CleanBlock vs 21 w → ⊥
 no-clean w b =
-    let z : 0 ≡ b .run = eqb-true 0 (b .run) (at-zero (b .run) (observed (gets 21 (b .run)) (yieldsUp 21 (b .run)) vs (b .has))) in
-    not-clean (rw (sym z) at (observed (renews 21 (b .run)) (releasesTo 21 (b .run)) vs (b .clean)))
+    let z : 0 ≡ b.run = eqb-true 0 b.run (at-zero b.run (observed (gets 21 b.run) (yields_up 21 b.run) vs b.has)) in
+    not-clean (rw (sym z) at (observed (renews 21 b.run) (releases_to 21 b.run) vs b.clean))
 
-denied : Virgins 4 plainRules xs → ⊥
+denied : Virgins 4 plain_rules xs → ⊥
 UNFOLDING
-denied v = no-clean {(1 << 62) + 3} (v .virgin take21 21 15 (lent 64) refl refl .0 refl .1 {(1 << 62) + 3} refl)
+denied v = no-clean {(1 << 62) + 3} (((v.virgin take21 21 15 (lent 64) refl refl).0 refl).1 {(1 << 62) + 3} refl)
 """,
 )
 
@@ -237,9 +237,9 @@ def not_reserved(call):
     return (
         "Reserved",
         f"""
-denied : Reserved 8 plainRules ({call} ∷ []) → ⊥
+denied : Reserved 8 plain_rules ({call} ∷ []) → ⊥
 UNFOLDING
-denied r = true≢false (ap unaskedYet (r .status))
+denied r = true≢false (ap unasked_yet r.status)
 """,
     )
 
@@ -249,13 +249,13 @@ NOT_PARTIAL_FIRST = (
     "Sources",
     f"""
 abbrev take45 : Call
-take45 = takeBlocks 45 15 (lent 64)
+take45 = take_blocks 45 15 (lent 64)
 
 abbrev xs : List Call
-xs = take45 ∷ take45 ∷ releaseBlocks 45 15 (smalls (4099 ∷ 5123 ∷ 6147 ∷ [])) ∷ releaseBlocks 45 15 (smalls (3 ∷ [])) ∷ []
+xs = take45 ∷ take45 ∷ release_blocks 45 15 (smalls (4099 ∷ 5123 ∷ 6147 ∷ [])) ∷ release_blocks 45 15 (smalls (3 ∷ [])) ∷ []
 
 abbrev vs : List Event
-vs = events 4 plainRules xs
+vs = events 4 plain_rules xs
 
 abbrev back : ℕ
 back = {(1 << 62) + 3}
@@ -266,15 +266,15 @@ out = {(1 << 62) + 2051}
 abbrev second : ℕ
 second = {(1 << 62) + 4099}
 
-other : (u : Used vs 45 1) (w : ℕ) → elem w (blocksAt (shapeOf 45) 1) ≡ false → u .out .entry .word ≡ w → ⊥
-other u w n a = false≢true (sym n ∙ sym (ap (λ (z : ℕ). elem z (blocksAt (shapeOf 45) 1)) (sym (u .out .word) ∙ a)) ∙ u .block)
+other : (u : Used vs 45 1) (w : ℕ) → elem w (blocks_at (shape_of 45) 1) ≡ false → u.out.entry.word ≡ w → ⊥
+other u w n a = false≢true (sym n ∙ sym (ap (λ (z : ℕ). elem z (blocks_at (shape_of 45) 1)) (sym u.out.word ∙ a)) ∙ u.block)
 
 no-used : Used vs 45 1 → ⊥
 UNFOLDING
-no-used u = elim (live-in 0 (u .out .entry) [] vs (u .out .live)) [
-  | inl a ↦ other u out refl (ap (λ (e : Entry). e .word) a)
+no-used u = elim (live_in 0 u.out.entry [] vs u.out.live) [
+  | inl a ↦ other u out refl (ap (λ (e : Entry). e.word) a)
   | inr b ↦ elim b [
-    | inl a ↦ other u {(1 << 62) + 1027} refl (ap (λ (e : Entry). e .word) a)
+    | inl a ↦ other u {(1 << 62) + 1027} refl (ap (λ (e : Entry). e.word) a)
     | inr c ↦ absurd c
   ]
 ]
@@ -283,15 +283,15 @@ not-chilled : Chilled 45 1 vs → ⊥
 UNFOLDING
 not-chilled c = false≢true (observed (chills 45 1) (draws 45 1) vs c)
 
-none-live : total (is 45 back) (liveFrom 0 [] vs) ≡ 0
+none-live : total (is 45 back) (live_from 0 [] vs) ≡ 0
 UNFOLDING
 none-live = refl
 
 not-out : OutIn vs 45 back → ⊥
 not-out o =
-    let e = o .entry in
-    let m = in-total (is 45 back) e (liveFrom 0 [] vs) (live-in 0 e [] vs (o .live)) in
-    let one : is 45 back e ≡ 1 = rw (← o .class, ← o .word) (is-self e) in
+    let e = o.entry in
+    let m = in_total (is 45 back) e (live_from 0 [] vs) (live_in 0 e [] vs o.live) in
+    let one : is 45 back e ≡ 1 = rw (← o.class, ← o.word) (is_self e) in
     absurd (omega (arith, none-live))
 
 empty : ComesFrom IsEmpty vs 45 second
@@ -310,9 +310,9 @@ partial : Has IsPartial vs 45
 UNFOLDING
 partial = record {{ run = 0; has = inl (refl, refl); is = (used, not-full) }}
 
-denied : Sources 4 plainRules xs → ⊥
+denied : Sources 4 plain_rules xs → ⊥
 UNFOLDING
-denied s = s .turns take45 45 15 (lent 64) refl refl .empty second refl .0 empty .0 partial
+denied s = (((s.turns take45 45 15 (lent 64) refl refl).empty second refl).0 empty).0 partial
 """,
 )
 
@@ -323,20 +323,20 @@ def two_parked(limits, body):
         "Sources",
         f"""
 abbrev take45 : Call
-take45 = takeBlocks 45 15 (lent 64)
+take45 = take_blocks 45 15 (lent 64)
 
 abbrev rules : Rules
 rules c = {limits}
 
 abbrev xs : List Call
-xs = take45 ∷ take45 ∷ releaseBlocks 45 15 (smalls (3 ∷ 1027 ∷ 2051 ∷ [])) ∷ releaseBlocks 45 15 (smalls (4099 ∷ 5123 ∷ 6147 ∷ [])) ∷ []
+xs = take45 ∷ take45 ∷ release_blocks 45 15 (smalls (3 ∷ 1027 ∷ 2051 ∷ [])) ∷ release_blocks 45 15 (smalls (4099 ∷ 5123 ∷ 6147 ∷ [])) ∷ []
 
 abbrev vs : List Event
 vs = events 4 rules xs
 
 no-used : (q : ℕ) → Used vs 45 q → ⊥
 UNFOLDING
-no-used q u = absurd (live-in 0 (u .out .entry) [] vs (u .out .live))
+no-used q u = absurd (live_in 0 u.out.entry [] vs u.out.live)
 {body}""",
     )
 
@@ -362,7 +362,7 @@ empty = record {{ run = 0; has = inl (refl, refl); is = (no-used 0, not-chilled)
 
 denied : Sources 4 rules xs → ⊥
 UNFOLDING
-denied s = s .turns take45 45 15 (lent 64) refl refl .cold second refl .0 cold .1 empty
+denied s = (((s.turns take45 45 15 (lent 64) refl refl).cold second refl).0 cold).1 empty
 """,
 )
 
@@ -373,7 +373,7 @@ NOT_LAST_FIRST = two_parked(
 abbrev first : ℕ
 first = {(1 << 62) + 3}
 
-not-chilled : (q : ℕ) → Chilled 45 q vs → sinceFrom (chills 45 q) (draws 45 q) false vs ≡ false → ⊥
+not-chilled : (q : ℕ) → Chilled 45 q vs → since_from (chills 45 q) (draws 45 q) false vs ≡ false → ⊥
 not-chilled q c n = false≢true (sym n ∙ observed (chills 45 q) (draws 45 q) vs c)
 
 one : ComesFrom IsEmpty vs 45 first
@@ -386,11 +386,11 @@ other = record {{ run = 1; has = inr (inl (refl, refl)); is = (no-used 1, λ c. 
 
 not-later : Later 45 0 1 vs → ⊥
 UNFOLDING
-not-later l = false≢true (observed (follows 45 0 1) (releasesTo 45 1) vs l)
+not-later l = false≢true (observed (follows 45 0 1) (releases_to 45 1) vs l)
 
 denied : Sources 4 rules xs → ⊥
 UNFOLDING one other
-denied s = elim (s .turns take45 45 15 (lent 64) refl refl .lastEmpty refl first refl one other) [
+denied s = elim ((s.turns take45 45 15 (lent 64) refl refl).last_empty refl first refl one other) [
   | inl e ↦ true≢false (ap (λ (n : ℕ). eqb n 0) e)
   | inr l ↦ not-later l
 ]
@@ -400,9 +400,9 @@ denied s = elim (s .turns take45 45 15 (lent 64) refl refl .lastEmpty refl first
 NOT_CONTAINED = (
     "Reserved",
     """
-denied : Reserved 8 plainRules (commit 15 1 ∷ []) → ⊥
+denied : Reserved 8 plain_rules (commit 15 1 ∷ []) → ⊥
 UNFOLDING
-denied r = false≢true (ap isContained (r .contains 0 524288 .1 (record { granted = refl; no-overflow = omega arith; inside = omega arith })))
+denied r = false≢true (ap is_contained ((r.contains 0 524288).1 (record { granted = refl; no_overflow = omega arith; inside = omega arith })))
 """,
 )
 
@@ -410,11 +410,11 @@ NOT_COUNTED = (
     "Counted",
     """
 abbrev xs : List Call
-xs = commit 15 1 ∷ growFrontier 15 0 1 2 ∷ []
+xs = commit 15 1 ∷ grow_frontier 15 0 1 2 ∷ []
 
-denied : Counted 8 plainRules xs (Heaps.figures 8 (heapAfter 8 plainRules xs)) → ⊥
+denied : Counted 8 plain_rules xs (Heaps.figures 8 (heap_after 8 plain_rules xs)) → ⊥
 UNFOLDING
-denied c = false≢true (ap (λ (n : ℕ). eqb n 2) (c .commits))
+denied c = false≢true (ap (λ (n : ℕ). eqb n 2) c.commits)
 """,
 )
 
@@ -430,9 +430,9 @@ whole q = record {{ first = q; free = []; carved = 3; virgin = true; retired = f
 abbrev ws : List ℕ
 ws = smalls (3 ∷ 1027 ∷ 2051 ∷ 4099 ∷ 5123 ∷ 6147 ∷ [])
 
-denied : GroupsGive (shapeOf 45) (limits {empty} 0) (lists [] [] [] (whole 0 ∷ whole 1 ∷ [])) → ⊥
+denied : GroupsGive (shape_of 45) (limits {empty} 0) (lists [] [] [] (whole 0 ∷ whole 1 ∷ [])) → ⊥
 UNFOLDING
-denied g = false≢true (ap (λ (l : List ℕ). eqb (getD l 0 9) 0) (g .gives 15 ws (chunkWord 3 0 ∷ chunkWord 3 1 ∷ []) (9 ∷ 9 ∷ []) none))
+denied g = false≢true (ap (λ (l : List ℕ). eqb (get_or l 0 9) 0) (g.gives 15 ws (chunk_word 3 0 ∷ chunk_word 3 1 ∷ []) (9 ∷ 9 ∷ []) none))
 """,
     )
 
@@ -485,7 +485,7 @@ RULES = [
                 at(24, "self.reuses.fetch_add(1, Ordering::Relaxed);", "return (base as *mut u8, true);"),
             )
         ],
-        model=[(ARENA, "reuses = cond fresh (a .reuses) (more (a .reuses))", "reuses = more (a .reuses)")],
+        model=[(ARENA, "reuses = cond fresh a.reuses (more a.reuses)", "reuses = more a.reuses")],
     ),
     Rule(
         "a refused reservation does not disable",
@@ -496,7 +496,7 @@ RULES = [
                 "if raw == usize::MAX {\n" + at(16, "self.state.store(0, Ordering::Release);"),
             )
         ],
-        model=[(ARENA, "(given (withStatus disabled a) none false)", "(given a none false)")],
+        model=[(ARENA, "(given (with_status disabled a) none false)", "(given a none false)")],
     ),
     Rule(
         "a cold span is virgin",
@@ -507,14 +507,14 @@ RULES = [
                 at(16, "(*span).init(mclass, pages);", "virgin = true;"),
             )
         ],
-        model=[(CLASS, "(c .zeroed && not (isMedium sh))", "(c .zeroed)")],
+        model=[(CLASS, "(c.zeroed && not (is_medium sh))", "c.zeroed")],
     ),
     Rule(
         "a done discard zeroes without bit 3",
         heap=[("sys/unix.rs", "zeroed: ok && dontneed_zeroes(),", "zeroed: ok,")],
         model=[
-            (RELEASE, "use Rattle·words.specs.Host.{discardZeroed}", "use Rattle·words.specs.Host.{discardDone}"),
-            (RELEASE, "zeroed = discardZeroed h", "zeroed = discardDone h"),
+            (RELEASE, "use Rattle.words.specs.Host.{discard_zeroed}", "use Rattle.words.specs.Host.{discard_done}"),
+            (RELEASE, "zeroed = discard_zeroed h", "zeroed = discard_done h"),
         ],
     ),
     Rule(
@@ -529,7 +529,7 @@ RULES = [
             ("heap.rs", at(8, "SpanFate::Keep => {}"), at(8, "SpanFate::Keep | SpanFate::Cold => {}")),
             ("compare/seams/parts.rs", "SpanFate::Keep => 0,", "SpanFate::Keep => 0,\\n        SpanFate::Cold => 1,"),
         ],
-        model=[(DESTINATION, "fateOf sh ToCold = cond (isMedium sh) keptFate 1", "fateOf sh ToCold = 1")],
+        model=[(DESTINATION, "fate_of sh ToCold = cond (is_medium sh) kept_fate 1", "fate_of sh ToCold = 1")],
     ),
     Rule(
         "virgin goes by the first page only",
@@ -540,7 +540,7 @@ RULES = [
                 at(8, "if *count == 0 && (*page).flags & FLAG_VIRGIN == 0 {", "    *virgin = false;", "}", "let before"),
             )
         ],
-        model=[(CLASS, "virgin = v && f .virgin;", "virgin = v;")],
+        model=[(CLASS, "virgin = v && f.virgin;", "virgin = v;")],
         alike="a virgin page enters an empty list only, so it stands behind all others",
     ),
     Rule(
@@ -563,7 +563,7 @@ RULES = [
                 ),
             )
         ],
-        model=[(CLASS, "blocks = f .blocks ++ x .blocks;", "blocks = x .blocks ++ f .blocks;")],
+        model=[(CLASS, "blocks = f.blocks ++ x.blocks;", "blocks = x.blocks ++ f.blocks;")],
     ),
     limit(
         "5 empty pages",
@@ -596,14 +596,14 @@ RULES = [
         "rows give no more than document 01's limits",
         heap=[("compare/src/oracle/limits.rs", "given => given as usize,", "given => own.min(given as usize),")],
         model=[
-            (DESTINATION, "{ℕ, suc, _+_, _*_}", "{ℕ, suc, _+_, _*_, min}"),
-            (DESTINATION, "ltb e (lim .empty) &&", "ltb e (min (lim .empty) (cond (isMedium sh) 32 4)) &&"),
+            (DESTINATION, "◌*◌, Bool, true", "◌*◌, min, Bool, true"),
+            (DESTINATION, "ltb e lim.empty &&", "ltb e (min lim.empty (cond (is_medium sh) 32 4)) &&"),
         ],
     ),
     Rule(
         "a row's two limits are exchanged",
         heap=[(PARKING, ".map(|row| [row[2], row[3]])", ".map(|row| [row[3], row[2]])")],
-        model=[(ROWS, "rowLimits r = limits (r .empty) (r .cold)", "rowLimits r = limits (r .cold) (r .empty)")],
+        model=[(ROWS, "row_limits r = limits r.empty r.cold", "row_limits r = limits r.cold r.empty")],
         crate="rules",
     ),
     Rule(
@@ -613,13 +613,13 @@ RULES = [
     Rule(
         "17 comes before 18",
         heap=[(PARKING, "} else if (0..CLASSES).any(|class| of(class) > 1) {", "} else if (0..CLASSES).all(|class| of(class) > 0) && (0..CLASSES).any(|class| of(class) > 1) {")],
-        model=[(ROWS, "(cond (twoRows ws) 18 (cond (noRow ws) 17 0))", "(cond (noRow ws) 17 (cond (twoRows ws) 18 0))")],
+        model=[(ROWS, "(cond (two_rows ws) 18 (cond (no_row ws) 17 0))", "(cond (no_row ws) 17 (cond (two_rows ws) 18 0))")],
         crate="rules",
     ),
     Rule(
         "a class above 75 passes",
         heap=[(PARKING, "row[1] >= CLASSES", "row[1] > CLASSES")],
-        model=[(ROWS, "ltb (r .last) classCount", "leb (r .last) classCount")],
+        model=[(ROWS, "ltb r.last class_count", "leb r.last class_count")],
         crate="rules",
     ),
     Rule(
@@ -628,7 +628,7 @@ RULES = [
             ("compare/src/words.rs", "MAX_CHUNKS: usize = 2_056", "MAX_CHUNKS: usize = 2_057"),
             ("heap.rs", "MAX_PAGE_RELEASE_GROUPS: usize = 2056;", "MAX_PAGE_RELEASE_GROUPS: usize = 2057;"),
         ],
-        model=[(CHUNKS, "chunksMax = 2056", "chunksMax = 2057")],
+        model=[(CHUNKS, "chunks_max = 2056", "chunks_max = 2057")],
     ),
     Rule(
         "groups are treated in reverse order",
@@ -644,15 +644,15 @@ RULES = [
                 CHUNKS,
                 at(
                     4,
-                    "let b = settleChunk sh lim h s ws (locate (startsAt (pageOf g)) s) in",
-                    "let r = settleChunks sh lim h ws (b .class) gs in",
-                    "record { class = r .class;",
+                    "let b = settle_chunk sh lim h s ws (locate (starts_at (page_of g)) s) in",
+                    "let r = settle_chunks sh lim h ws b.class gs in",
+                    "record { class = r.class;",
                 ),
                 at(
                     4,
-                    "let r = settleChunks sh lim h ws s gs in",
-                    "let b = settleChunk sh lim h (r .class) ws (locate (startsAt (pageOf g)) (r .class)) in",
-                    "record { class = b .class;",
+                    "let r = settle_chunks sh lim h ws s gs in",
+                    "let b = settle_chunk sh lim h r.class ws (locate (starts_at (page_of g)) r.class) in",
+                    "record { class = b.class;",
                 ),
             )
         ],
@@ -683,8 +683,8 @@ RULES = [
             )
         ],
         model=[
-            (CHUNKS, "{List, [], _∷_, _++_, map}", "{List, [], _∷_, _++_, map, reverse}"),
-            (CHUNKS, "true (blocksOn sh ws (x .page)) x", "true (reverse (blocksOn sh ws (x .page))) x"),
+            (CHUNKS, "◌++◌, map, Bool", "◌++◌, map, reverse, Bool"),
+            (CHUNKS, "true (blocks_on sh ws x.page) x", "true (reverse (blocks_on sh ws x.page)) x"),
         ],
     ),
     Rule(
@@ -704,7 +704,7 @@ RULES = [
                 ),
             )
         ],
-        model=[(PAGE, "free = ws ++ p .free;", "free = p .free ++ ws;")],
+        model=[(PAGE, "free = ws ++ p.free;", "free = p.free ++ ws;")],
     ),
     Rule(
         "a page enters the partial list at its tail",
@@ -724,7 +724,7 @@ RULES = [
                 ),
             )
         ],
-        model=[(RELEASE, "with = λ p. lists (p ∷ s .partial)", "with = λ p. lists (s .partial ++ p ∷ [])")],
+        model=[(RELEASE, "with = λ p. lists (p ∷ s.partial)", "with = λ p. lists (s.partial ++ p ∷ [])")],
     ),
     Rule(
         "empty pages come first in first out",
@@ -744,7 +744,7 @@ RULES = [
                 ),
             )
         ],
-        model=[(RELEASE, "(p ∷ s .empty) (s .cold)", "(s .empty ++ p ∷ []) (s .cold)")],
+        model=[(RELEASE, "(p ∷ s.empty) s.cold", "(s.empty ++ p ∷ []) s.cold")],
     ),
     Rule(
         "cold pages come oldest first",
@@ -767,8 +767,8 @@ RULES = [
         model=[
             (
                 RELEASE,
-                "(record { first = p .first; zeroed = discardZeroed h } ∷ s .cold)",
-                "(s .cold ++ record { first = p .first; zeroed = discardZeroed h } ∷ [])",
+                "(record { first = p.first; zeroed = discard_zeroed h } ∷ s.cold)",
+                "(s.cold ++ record { first = p.first; zeroed = discard_zeroed h } ∷ [])",
             )
         ],
     ),
@@ -780,7 +780,7 @@ RULES = [
     Rule(
         "a host word of 16",
         heap=[("compare/src/words.rs", "HOST_ALL: u32 = 15;", "HOST_ALL: u32 = 16;")],
-        model=[(HOST, "hostMax = 15", "hostMax = 16"), (HOST_CODE, "pub const MOST: u32 = 15;", "pub const MOST: u32 = 16;")],
+        model=[(HOST, "host_max = 15", "host_max = 16"), (HOST_CODE, "pub const MOST: u32 = 15;", "pub const MOST: u32 = 16;")],
     ),
     Rule(
         "`contains` before the reservation",
@@ -791,22 +791,22 @@ RULES = [
                 "offset.checked_add(length).is_some_and(|end| end <= u64::from(self.pages) * PAGE_BYTES as u64)",
             )
         ],
-        model=[(ARENA, "contains size o b a = isReady (a .status) && (", "contains size o b a = (")],
+        model=[(ARENA, "contains size o b a = is_ready a.status && (", "contains size o b a = (")],
     ),
     Rule(
         "`contains` is no at the arena's end",
         heap=[("arena.rs", "start <= b && top <= end && b >= start", "start <= b && top <= end && b < end")],
-        model=[(ARENA, "leb (o + b) (size * pageBytes))", "(leb (o + b) (size * pageBytes) && ltb o (size * pageBytes)))")],
+        model=[(ARENA, "leb (o + b) (size * page_bytes))", "(leb (o + b) (size * page_bytes) && ltb o (size * page_bytes)))")],
     ),
     Rule(
         "the report's commits and reuses are exchanged",
         heap=[("compare/src/reference.rs", "let [commits, reuses, abandoned] =", "let [reuses, commits, abandoned] =")],
-        model=[(HEAP, "commits = a .commits;\n  reuses = a .reuses", "commits = a .reuses;\n  reuses = a .commits")],
+        model=[(HEAP, "commits = a.commits;\n  reuses = a.reuses", "commits = a.reuses;\n  reuses = a.commits")],
     ),
     Rule(
         "the report's reuses and abandoned are exchanged",
         heap=[("compare/src/reference.rs", "let [commits, reuses, abandoned] =", "let [commits, abandoned, reuses] =")],
-        model=[(HEAP, "reuses = a .reuses;\n  abandoned = a .abandoned", "reuses = a .abandoned;\n  abandoned = a .reuses")],
+        model=[(HEAP, "reuses = a.reuses;\n  abandoned = a.abandoned", "reuses = a.abandoned;\n  abandoned = a.reuses")],
     ),
     Rule(
         "the report's held and idle pages are exchanged",
@@ -820,8 +820,8 @@ RULES = [
         model=[
             (
                 HEAP,
-                "held = held;\n  idle = a .store .total + (size - a .frontier) + parked",
-                "held = a .store .total + (size - a .frontier) + parked;\n  idle = held",
+                "held = held;\n  idle = a.store.total + (size - a.frontier) + parked",
+                "held = a.store.total + (size - a.frontier) + parked;\n  idle = held",
             )
         ],
     ),
@@ -834,7 +834,7 @@ RULES = [
                 "list.empty_count as usize",
             )
         ],
-        model=[(HEAP, "parkedRuns s = length (s .empty) + length (s .cold)", "parkedRuns s = length (s .empty)")],
+        model=[(HEAP, "parked_runs s = length s.empty + length s.cold", "parked_runs s = length s.empty")],
     ),
     Rule(
         "a parked span is one idle page",
@@ -845,22 +845,22 @@ RULES = [
                 "(list.empty_count + list.cold_len) as usize",
             )
         ],
-        model=[(HEAP, "runs c * shapeOf c .pages", "runs c")],
+        model=[(HEAP, "runs c * (shape_of c).pages", "runs c")],
     ),
     Rule(
         "of equal holes the lowest index",
         heap=[(OURS, "min_by_key(|&i| (self.entries[i].1, self.entries[i].0))", "min_by_key(|&i| self.entries[i].1)")],
-        model=[(HOLES, "&& leb (h .first) (g .first)", "")],
+        model=[(HOLES, "&& leb h.first g.first", "")],
     ),
     Rule(
         "of equal holes the highest page",
         heap=[(OURS, "(self.entries[i].1, self.entries[i].0))", "(self.entries[i].1, std::cmp::Reverse(self.entries[i].0)))")],
-        model=[(HOLES, "leb (h .first) (g .first)", "leb (g .first) (h .first)")],
+        model=[(HOLES, "leb h.first g.first", "leb g.first h.first")],
     ),
     Rule(
         "the lowest page of all that suffice",
         heap=[(OURS, "(self.entries[i].1, self.entries[i].0))", "self.entries[i].0)")],
-        model=[(HOLES, "ltb (h .pages) (g .pages) || eqb (h .pages) (g .pages) && leb (h .first) (g .first)", "leb (h .first) (g .first)")],
+        model=[(HOLES, "ltb h.pages g.pages || eqb h.pages g.pages && leb h.first g.first", "leb h.first g.first")],
     ),
     Rule(
         "the holes behind a used-up one move up",
@@ -869,8 +869,8 @@ RULES = [
         model=[
             (
                 HOLES,
-                "removeAt i hs = setAt i (lastHole hs) (withoutLast hs)",
-                "removeAt i [] = []\nremoveAt zero (h ∷ hs) = hs\nremoveAt (suc i) (h ∷ hs) = h ∷ removeAt i hs",
+                "remove_at i hs = set_at i (last_hole hs) (without_last hs)",
+                "remove_at i [] = []\nremove_at zero (h ∷ hs) = hs\nremove_at (suc i) (h ∷ hs) = h ∷ remove_at i hs",
             )
         ],
     ),
@@ -888,20 +888,20 @@ RULES = [
         model=[
             (
                 HOLES,
-                "(store (setAt i (hole (x .first + n) (x .pages - n)) (s .holes)) (s .total - n))",
-                "(store (removeAt i (s .holes) ++ hole (x .first + n) (x .pages - n) ∷ []) (s .total - n))",
+                "(store (set_at i (hole (x.first + n) (x.pages - n)) s.holes) (s.total - n))",
+                "(store (remove_at i s.holes ++ hole (x.first + n) (x.pages - n) ∷ []) (s.total - n))",
             )
         ],
     ),
     Rule(
         "4,095 holes",
         heap=[("arena.rs", "HOLE_SLOTS: usize = 4096;", "HOLE_SLOTS: usize = 4095;")],
-        model=[(LIMITS, "holeSlots = 4096", "holeSlots = 4095")],
+        model=[(LIMITS, "hole_slots = 4096", "hole_slots = 4095")],
     ),
     Rule(
         "a total of just 65,536 pages is abandoned",
         heap=[(OURS, "<= HOLE_CAP_BYTES", "< HOLE_CAP_BYTES")],
-        model=[(HOLES, "leb (s .total + n) holePagesMax", "ltb (s .total + n) holePagesMax")],
+        model=[(HOLES, "leb (s.total + n) hole_pages_max", "ltb (s.total + n) hole_pages_max")],
     ),
     Rule(
         "a repeat is 10",
@@ -916,7 +916,7 @@ RULES = [
     Rule(
         "a repeat of a block that is not out is 15",
         heap=[(LEDGER, "if self.count_out(id, &twice) > 0 {", "if !twice.is_empty() {")],
-        model=[(RELEASE, "not (distinct (filter (outHere sh s) ws))", "not (distinct ws)")],
+        model=[(RELEASE, "not (distinct (filter (out_here sh s) ws))", "not (distinct ws)")],
     ),
     Rule(
         "a repeat comes after 11",
@@ -933,35 +933,35 @@ RULES = [
         ],
         model=[
             (RELEASE, f"    {REPEATED}\n", ""),
-            (RELEASE, "(onPage sh lim h s ws (siteOfFirst sh s ws)))))", "(onPage sh lim h s ws (siteOfFirst sh s ws))))"),
+            (RELEASE, "(on_page sh lim h s ws (site_of_first sh s ws)))))", "(on_page sh lim h s ws (site_of_first sh s ws))))"),
             (RELEASE, "    (let b = settle sh lim h false ws x in done", f"    {REPEATED}\n    (let b = settle sh lim h false ws x in done"),
-            (RELEASE, "gives = b .gives }))\n    (refuse s 11)", "gives = b .gives })))\n    (refuse s 11)"),
+            (RELEASE, "gives = b.gives }))\n    (refuse s 11)", "gives = b.gives })))\n    (refuse s 11)"),
         ],
     ),
     Rule(
         "holes that touch stay apart",
         heap=[(OURS, "((0..self.len).find(ends), (0..self.len).find(starts))", "(None, None)")],
-        model=[(HOLES, "(place n q (s .holes) (holeBefore q (s .holes)) (holeAfter (q + n) (s .holes)))", "(place n q (s .holes) none none)")],
+        model=[(HOLES, "(place n q s.holes (hole_before q s.holes) (hole_after (q + n) s.holes))", "(place n q s.holes none none)")],
     ),
     Rule(
         "a run joins the hole before it alone",
         heap=[(OURS, "(0..self.len).find(starts))", "None)")],
-        model=[(HOLES, "(holeAfter (q + n) (s .holes))) (s .total + n)", "none) (s .total + n)")],
+        model=[(HOLES, "(hole_after (q + n) s.holes)) (s.total + n)", "none) (s.total + n)")],
     ),
     Rule(
         "a run joins the hole after it alone",
         heap=[(OURS, "((0..self.len).find(ends),", "(None,")],
-        model=[(HOLES, "(place n q (s .holes) (holeBefore q (s .holes))", "(place n q (s .holes) none")],
+        model=[(HOLES, "(place n q s.holes (hole_before q s.holes)", "(place n q s.holes none")],
     ),
     Rule(
         "a run that joins needs a slot",
         heap=[(OURS, "(None, None) if self.len >= HOLE_SLOTS", "_ if self.len >= HOLE_SLOTS")],
-        model=[(HOLES, "isSome b || isSome c || ltb (length hs) holeSlots", "ltb (length hs) holeSlots")],
+        model=[(HOLES, "is_some b || is_some c || ltb (length hs) hole_slots", "ltb (length hs) hole_slots")],
     ),
     Rule(
         "a run that joins may pass 65,536 pages",
         heap=[(OURS, "if !self.has_room(pages) {", "if !self.has_room(pages) && self.touching(off, pages) == (None, None) {")],
-        model=[(HOLES, "accepts n q s = leb (s .total + n) holePagesMax &&", "accepts n q s = (leb (s .total + n) holePagesMax || isSome (holeBefore q (s .holes))) &&")],
+        model=[(HOLES, "accepts n q s = leb (s.total + n) hole_pages_max &&", "accepts n q s = (leb (s.total + n) hole_pages_max || is_some (hole_before q s.holes)) &&")],
     ),
     Rule(
         "the joined hole stands at the index of the one after",
@@ -970,7 +970,7 @@ RULES = [
             (OURS, "self.entries[before].1 += pages + self.entries[after].1;", "self.entries[after] = (self.entries[before].0, self.entries[before].1 + pages + self.entries[after].1);"),
             (OURS, "self.entries[after] = self.entries[last];", "self.entries[before] = self.entries[last];"),
         ],
-        model=[(HOLES, "removeAt j (setAt i (withBoth", "removeAt i (setAt j (withBoth")],
+        model=[(HOLES, "remove_at j (set_at i (with_both", "remove_at i (set_at j (with_both")],
     ),
     Rule(
         "a block's granule is cut to 30 bits",
@@ -991,12 +991,12 @@ RULES = [
                 ),
             )
         ],
-        model=[(WORD, "granuleOf w = w % 2 ^ kindBits", "granuleOf w = w % 2 ^ 30")],
+        model=[(WORD, "granule_of w = w % 2 ^ kind_bits", "granule_of w = w % 2 ^ 30")],
     ),
     Rule(
         "a group's page is cut to 18 bits",
         heap=[(WORDS, "word & ((1 << CHUNK_PAGE_BITS) - 1)", "word & ((1 << 18) - 1)")],
-        model=[(WORD, "pageOf w = w % 2 ^ pageBits", "pageOf w = w % 2 ^ 18")],
+        model=[(WORD, "page_of w = w % 2 ^ page_bits", "page_of w = w % 2 ^ 18")],
     ),
     Rule(
         "1,048,577 pages open",
@@ -1013,8 +1013,8 @@ RULES = [
         model=[
             (
                 CLASS,
-                "stays sh p = hasMore sh p",
-                "stays sh p = cond (isMedium sh) (hasMore sh p) (hasMore sh (record { first = p .first; free = []; carved = p .carved; virgin = p .virgin; retired = p .retired }))",
+                "stays sh p = has_more sh p",
+                "stays sh p = cond (is_medium sh) (has_more sh p) (has_more sh (record { first = p.first; free = []; carved = p.carved; virgin = p.virgin; retired = p.retired }))",
             )
         ],
     ),
@@ -1032,8 +1032,8 @@ RULES = [
         model=[
             (
                 CLASS,
-                "stays sh p = hasMore sh p",
-                "stays sh p = hasMore sh (record { first = p .first; free = drop 1 (p .free); carved = p .carved; virgin = p .virgin; retired = p .retired })",
+                "stays sh p = has_more sh p",
+                "stays sh p = has_more sh (record { first = p.first; free = drop 1 p.free; carved = p.carved; virgin = p.virgin; retired = p.retired })",
             )
         ],
     ),
@@ -1070,13 +1070,13 @@ RULES = [
             )
         ],
         model=[
-            (RELEASE, "{Bool, false, cond, not}", "{Bool, false, cond, not, _&&_}"),
-            (RELEASE, "{Page, isOut, noneOut, returned, retire}", "{Page, isOut, noneOut, hasMore, returned, retire}"),
+            (RELEASE, "Bool, false, cond, not, eqb", "Bool, false, cond, not, ◌&&◌, eqb"),
+            (RELEASE, "{Page, is_out, none_out, returned, retire}", "{Page, is_out, none_out, has_more, returned, retire}"),
             (
                 RELEASE,
-                "(record { class = x .with (returned ws (x .page)); fate",
-                "(record { class = x .with (record { first = x .page .first; free = ws ++ x .page .free; carved = x .page .carved; "
-                "virgin = retires && (hasMore sh (x .page) && x .page .virgin); retired = false }); fate",
+                "(record { class = x.with (returned ws x.page); fate",
+                "(record { class = x.with (record { first = x.page.first; free = ws ++ x.page.free; carved = x.page.carved; "
+                "virgin = retires && (has_more sh x.page && x.page.virgin); retired = false }); fate",
             ),
         ],
     ),
@@ -1093,15 +1093,15 @@ RULES = [
         model=[
             (
                 ARENA,
-                "commitAs size h n a unasked = cond (reservationGranted h)",
-                "commitAs size h n a unasked = cond (ltb size n) (given a none false) (cond (reservationGranted h)",
+                "commit_as size h n a unasked = cond (reservation_granted h)",
+                "commit_as size h n a unasked = cond (ltb size n) (given a none false) (cond (reservation_granted h)",
             ),
-            (ARENA, "(given (withStatus disabled a) none false)", "(given (withStatus disabled a) none false))"),
+            (ARENA, "(given (with_status disabled a) none false)", "(given (with_status disabled a) none false))"),
         ],
     ),
     Rule(
         "a take that is refused the reservation leaves it to be asked for again",
-        denied=not_reserved("takeBlocks 45 14 (lent 64)"),
+        denied=not_reserved("take_blocks 45 14 (lent 64)"),
         heap=[
             ("heap.rs", "let (base, fresh) = crate::arena::commit(pages);", "let (base, fresh) = crate::arena::commit_for_take(pages);"),
             (
@@ -1122,11 +1122,11 @@ RULES = [
             ),
         ],
         model=[
-            (HEAP, "use Rattle·model·specs.specs.Arena as Arenas\n", "use Rattle·words.specs.Host.{reservationGranted}\nuse Rattle·model·specs.specs.Arena as Arenas\n"),
+            (HEAP, "use Rattle.model.specs.Arena as Arenas\n", "use Rattle.words.specs.Host.{reservation_granted}\nuse Rattle.model.specs.Arena as Arenas\n"),
             (
                 HEAP,
                 "offer size h a (asks n k) = Arenas.commit size h n a",
-                "offer size h a (asks n k) = cond (reservationGranted h || Arenas.isReady (a .status)) (Arenas.commit size h n a) (given a none false)",
+                "offer size h a (asks n k) = cond (reservation_granted h || Arenas.is_ready a.status) (Arenas.commit size h n a) (given a none false)",
             ),
         ],
     ),
@@ -1134,7 +1134,7 @@ RULES = [
         "`contains` goes up to the frontier",
         denied=NOT_CONTAINED,
         heap=[("arena.rs", "start <= b && top <= end && b >= start", "start <= b && top <= start + self.bump.load(Ordering::Relaxed)")],
-        model=[(ARENA, "leb (o + b) (size * pageBytes))", "leb (o + b) (a .frontier * pageBytes))")],
+        model=[(ARENA, "leb (o + b) (size * page_bytes))", "leb (o + b) (a.frontier * page_bytes))")],
     ),
     Rule(
         "a growth is no commit",
@@ -1189,7 +1189,7 @@ RULES = [
                 ),
             )
         ],
-        model=[(CHUNKS, "gives = b .gives ++ r .gives", "gives = r .gives ++ b .gives")],
+        model=[(CHUNKS, "gives = b.gives ++ r.gives", "gives = r.gives ++ b.gives")],
     ),
     Rule(
         "groups' fates stand in reverse order",
@@ -1201,7 +1201,7 @@ RULES = [
                 "made.chunks.iter().zip(fates).map(|(chunk, fate)| if retired(chunk) { fate + 4 } else { fate }).rev().collect()",
             )
         ],
-        model=[(CHUNKS, "fates = b .fate ∷ r .fates;", "fates = r .fates ++ b .fate ∷ [];")],
+        model=[(CHUNKS, "fates = b.fate ∷ r.fates;", "fates = r.fates ++ b.fate ∷ [];")],
     ),
     Rule(
         "an empty page comes before the partial ones",
@@ -1251,12 +1251,12 @@ RULES = [
             (
                 CLASS,
                 FROM_PARTIAL,
-                "takeFrom sh l ps (e ∷ es) cs fs = done (served l (fillFromList sh (sh .batch) (reused sh e ∷ ps)) es cs fs)",
+                "take_from sh l ps (e ∷ es) cs fs = done (served l (fill_from_list sh sh.batch (reused sh e ∷ ps)) es cs fs)",
             ),
             (
                 CLASS,
                 FROM_EMPTY,
-                "takeFrom sh l (p ∷ ps) [] cs fs = done (served l (fillFromList sh (sh .batch) (p ∷ ps)) [] cs fs)",
+                "take_from sh l (p ∷ ps) [] cs fs = done (served l (fill_from_list sh sh.batch (p ∷ ps)) [] cs fs)",
             ),
         ],
     ),
@@ -1268,12 +1268,12 @@ RULES = [
             (
                 CLASS,
                 FROM_EMPTY,
-                "takeFrom sh l [] es (c ∷ cs) fs = done (served l (fillFromList sh (sh .batch) (thawed sh c ∷ [])) es cs fs)",
+                "take_from sh l [] es (c ∷ cs) fs = done (served l (fill_from_list sh sh.batch (thawed sh c ∷ [])) es cs fs)",
             ),
             (
                 CLASS,
-                "takeFrom sh l [] [] (c ∷ cs) fs = done (served l (fillFromList sh (sh .batch) (thawed sh c ∷ [])) [] cs fs)",
-                "takeFrom sh l [] (e ∷ es) [] fs = done (served l (fillFromList sh (sh .batch) (reused sh e ∷ [])) es [] fs)",
+                "take_from sh l [] [] (c ∷ cs) fs = done (served l (fill_from_list sh sh.batch (thawed sh c ∷ [])) [] cs fs)",
+                "take_from sh l [] (e ∷ es) [] fs = done (served l (fill_from_list sh sh.batch (reused sh e ∷ [])) es [] fs)",
             ),
         ],
     ),
@@ -1282,15 +1282,15 @@ RULES = [
         denied=NOT_PARTIAL_FIRST,
         heap=empty_where("count < REFILL_BATCH", "count < refill_cap"),
         model=[
-            (CLASS, "use lib.Dec.{eqb}", "use lib.Dec.{eqb, ltb}"),
+            (CLASS, "not, ◌&&◌, eqb, length", "not, ◌&&◌, eqb, ltb, length"),
             (
                 CLASS,
                 FROM_PARTIAL + "\n",
-                "takeFrom sh l (p ∷ ps) [] cs fs = done (served l (fillFromList sh (sh .batch) (p ∷ ps)) [] cs fs)\n"
-                "takeFrom sh l (p ∷ ps) (e ∷ es) cs fs =\n"
-                "    cond (ltb (length (fillFromList sh (sh .batch) (p ∷ ps) .blocks)) (sh .batch))\n"
-                "    (done (served l (fillFromList sh (sh .batch) ((p ∷ ps) ++ reused sh e ∷ [])) es cs fs))\n"
-                "    (done (served l (fillFromList sh (sh .batch) (p ∷ ps)) (e ∷ es) cs fs))\n",
+                "take_from sh l (p ∷ ps) [] cs fs = done (served l (fill_from_list sh sh.batch (p ∷ ps)) [] cs fs)\n"
+                "take_from sh l (p ∷ ps) (e ∷ es) cs fs =\n"
+                "    cond (ltb (length (fill_from_list sh sh.batch (p ∷ ps)).blocks) sh.batch)\n"
+                "    (done (served l (fill_from_list sh sh.batch ((p ∷ ps) ++ reused sh e ∷ [])) es cs fs))\n"
+                "    (done (served l (fill_from_list sh sh.batch (p ∷ ps)) (e ∷ es) cs fs))\n",
             ),
         ],
     ),
@@ -1317,8 +1317,8 @@ RULES = [
         model=[(ARENA, "(grown (give n e b) false)", "(grown a false)")],
     ),
     # What a word may hold shows in no history: the table of ranges has it, and editor/tests/boundaries/ranges.rs.
-    Rule("VIRGIN up to 7", model=[(RANGES, "(virginFlag p) = upTo 1", "(virginFlag p) = upTo 7")], crate="demands"),
-    Rule("LISTED up to 9", model=[(RANGES, "(listedFlag p) = upTo 1", "(listedFlag p) = upTo 9")], crate="demands"),
+    Rule("VIRGIN up to 7", model=[(RANGES, "(virgin_flag p) = up_to 1", "(virgin_flag p) = up_to 7")], crate="demands"),
+    Rule("LISTED up to 9", model=[(RANGES, "(listed_flag p) = up_to 1", "(listed_flag p) = up_to 9")], crate="demands"),
 ]
 
 
@@ -1405,20 +1405,19 @@ def replay(library, stored):
 
 
 class Models:
-    """A copy of the crates, with what was proved of them."""
+    """A copy of the crates. What `rt check` kept in the repository, a check of the copy begins with."""
 
     def __init__(self, work):
         self.folder = work / "model"
-        for part in ["crates", "target"]:
-            shutil.copytree(ROOT / part, self.folder / part, dirs_exist_ok=True)
+        shutil.copytree(ROOT / "crates", self.folder / "crates", dirs_exist_ok=True, ignore=shutil.ignore_patterns("out"))
         shutil.copy(ROOT / "crates.txt", self.folder)
 
     def place(self, name):
         return self.folder / name
 
     def check(self, crate):
-        """What `rt dev` refuses, by name; what only rests on it is left out."""
-        answer = run(["rt", "dev", crate], self.folder)
+        """What `rt check` refuses, by name; what only rests on it is left out."""
+        answer = run(["rt", "check"], self.place(f"crates/{crate}"))
         errors = re.findall(r"error: `([^`]+)`: (.*)", answer.stdout)
         names = dict.fromkeys(name for name, why in errors if "not admitted" not in why)
         if answer.returncode == 0 or names:
@@ -1432,7 +1431,7 @@ class Models:
         try:
             lib.write_text(before + "pub mod Denied\n")
             file.write_text(DENIED + proof.replace("UNFOLDING", UNFOLDING).lstrip())
-            answer = run(["rt", "dev", "model"], self.folder)
+            answer = run(["rt", "check"], self.place("crates/model"))
         finally:
             lib.write_text(before)
             file.unlink(missing_ok=True)

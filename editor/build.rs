@@ -1,5 +1,5 @@
 //! Links `libvigbuso.a`: the one in the folder that `VIGBUSO_STATICLIB_DIR` names; otherwise, in the repository, its own, which
-//! `rt staticlib vigbuso` makes anew here if it is not there or older than its sources; elsewhere the one in the package's `lib/`,
+//! `package/archive` makes anew here if it is not there or older than its sources; elsewhere the one in the package's `lib/`,
 //! where a release has it. Documentation alone (`DOCS_RS` is set) needs none.
 
 use std::io::Write;
@@ -11,8 +11,9 @@ use std::{env, fs};
 const ARCHIVE: &str = "libvigbuso.a";
 const NAMED: &str = "VIGBUSO_STATICLIB_DIR";
 
-/// The repository's list of crates.
+/// The repository's list of crates, and the command that makes the archive there.
 const CRATES: &str = "crates.txt";
+const MAKER: &str = "package/archive";
 
 /// The name that only an archive with this crate's calls has. `src/ffi.rs` calls it, but the linker would say less plainly what is
 /// wrong with another archive.
@@ -106,20 +107,28 @@ fn own_folder(root: &Path) -> PathBuf {
     folder
 }
 
-/// The list of crates, and the folder of each crate in the archive: `vigbuso`, and what it uses directly or by others.
+/// The list of crates, and the sources of each crate in the archive: `vigbuso_c`, and what it uses directly or by others.
 fn sources(root: &Path) -> Vec<PathBuf> {
     let list = root.join(CRATES);
     let text = fs::read_to_string(&list).unwrap_or_else(|error| panic!("{}: {error}", list.display()));
     let uses = |name: &str| {
-        text.lines().find_map(|line| line.strip_prefix(name)?.strip_prefix(':')).unwrap_or("").split_whitespace()
+        let of = |line| {
+            let (head, uses): (&str, &str) = str::split_once(line, ':')?;
+            (head.split_whitespace().next() == Some(name)).then_some(uses)
+        };
+        text.lines().find_map(of).unwrap_or("").split_whitespace()
     };
-    let mut crates = vec!["vigbuso"];
+    let mut crates = vec!["vigbuso_c"];
     let mut at = 0;
     while let Some(name) = crates.get(at).copied() {
         crates.extend(uses(name).filter(|other| !crates.contains(other)).collect::<Vec<_>>());
         at += 1;
     }
-    crates.into_iter().map(|name| root.join("crates").join(name)).chain([list]).collect()
+    // Beside these a crate has what a check writes.
+    let parts = crates
+        .into_iter()
+        .flat_map(|name| ["src", "specs", "proofs"].map(|part| root.join("crates").join(name).join(part)));
+    parts.filter(|part| part.exists()).chain([list]).collect()
 }
 
 fn modified(path: &Path) -> Option<SystemTime> {
@@ -134,7 +143,7 @@ fn newest(path: &Path) -> Option<SystemTime> {
 
 /// Proves the library and makes the archive, and says so: it takes minutes.
 fn build(root: &Path, why: &str) {
-    let news = format!("{ARCHIVE} {why}: `rt staticlib vigbuso` proves the library anew, which takes minutes");
+    let news = format!("{ARCHIVE} {why}: `{MAKER}` proves the library anew, which takes minutes");
     println!("cargo:warning={news}");
     // Cargo shows a warning when this program has ended, so whoever waits at a terminal is told now.
     if let Ok(mut terminal) = fs::OpenOptions::new().write(true).open("/dev/tty") {
@@ -142,9 +151,11 @@ fn build(root: &Path, why: &str) {
         let _ = writeln!(terminal, "vigbuso: {news}");
     }
     let start = Instant::now();
-    let status = Command::new("rt").args(["staticlib", "vigbuso"]).current_dir(root).status().unwrap_or_else(|error| {
-        panic!("`rt` cannot be run ({error}): put it on the path, or name a folder with {ARCHIVE} in {NAMED}")
-    });
-    assert!(status.success(), "`rt staticlib vigbuso` failed: {status}");
+    let status = Command::new(root.join(MAKER)).current_dir(root).status();
+    let status = status.unwrap_or_else(|error| panic!("`{MAKER}` cannot be run ({error})"));
+    assert!(
+        status.success(),
+        "`{MAKER}` failed ({status}): it needs `rt` on the path; or name a folder with {ARCHIVE} in {NAMED}"
+    );
     println!("cargo:warning={ARCHIVE} was made in {} s", start.elapsed().as_secs());
 }

@@ -1,7 +1,7 @@
 /*
  * Vigbuso's block heap, for C.
  *
- * Link libvigbuso.a: a release has it in lib/, `rt staticlib vigbuso` writes it to target/staticlib/. docs/CALLS.md describes the
+ * Link libvigbuso.a: a release has it in lib/, `package/archive` writes it to target/staticlib/. docs/CALLS.md describes the
  * calls; document 01, the paper that it cites, states their rules.
  *
  * The book is a slice of 32-bit words that the caller lends to every call: a pointer, then a length in words of at least

@@ -92,16 +92,16 @@ pub fn module(own_crate: &str) -> String {
         .collect();
     format!(
         "-- A heap with many holes, and that the calls which lead to one with {holes} holes lead there. Assumes nothing.\n\
-         use Prim.Native.Nat.{{ℕ, zero, suc, _+_, _-_, _*_, _%_}}\n\
-         use mathlib.Core.Path.{{_≡_, refl}}\n\
-         use mathlib.Core.List.{{List, [], _∷_, map}}\n\
-         use mathlib.Core.Bool.{{Bool, true, false, cond, not, _&&_}}\n\
+         use Prim.Native.Nat.{{ℕ, zero, suc, ◌+◌, ◌-◌, ◌*◌, ◌%◌}}\n\
+         use mathlib.Core.Path.{{◌≡◌, refl}}\n\
+         use mathlib.Core.List.{{List, [], ◌∷◌, map}}\n\
+         use mathlib.Core.Bool.{{Bool, true, false, cond, not, ◌&&◌}}\n\
          use lib.Dec.{{eqb, ltb}}\n\
-         use Rattle·{model}.specs.{calls_module}.{{{call_type}}}\n\
-         use Rattle·{model}.specs.{history} as Histories\n\
-         use Rattle·{model}.specs.{heap} as Heaps\n\
+         use Rattle.{model}.specs.{calls_module}.{{{call_type}}}\n\
+         use Rattle.{model}.specs.{history} as Histories\n\
+         use Rattle.{model}.specs.{heap} as Heaps\n\
          {uses}\
-         use Rattle·{own_crate}·proofs.proofs.Answers.{{computed}}\n\n\
+         use Rattle.{own_crate}.proofs.Answers.{{computed}}\n\n\
          {combed}\n\
          calls : List {call_type}\ncalls = {calls}\n\n\
          pages : List ℕ\npages = {pages}\n{laws}",

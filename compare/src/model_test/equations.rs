@@ -13,28 +13,28 @@ pub fn module(own_crate: &str, history: &History) -> String {
 
 /// The same by document 01's own hole store.
 pub fn module_original(own_crate: &str, history: &History) -> String {
-    stated(own_crate, history, "Answers.{computedOriginal}", "computedOriginal")
+    stated(own_crate, history, "Answers.{computed_original}", "computed_original")
 }
 
 /// The same from a heap that the module `Combed` writes down.
 pub fn module_from(own_crate: &str, history: &History, start: &str) -> String {
-    let uses = format!("Answers.{{computedFrom}}\nuse Rattle·{own_crate}·proofs.proofs.Combed.{{combed}}");
-    stated(own_crate, history, &uses, &format!("computedFrom {start}"))
+    let uses = format!("Answers.{{computed_from}}\nuse Rattle.{own_crate}.proofs.Combed.{{combed}}");
+    stated(own_crate, history, &uses, &format!("computed_from {start}"))
 }
 
 fn stated(own_crate: &str, history: &History, used: &str, computed: &str) -> String {
     let calls: Vec<Call> = history.calls.iter().map(|(call, _)| call.clone()).collect();
     let answers: Vec<String> = history.calls.iter().map(|(call, answer)| answer_term(call, answer)).collect();
-    let unfolding = computed.replace(|other: char| !other.is_alphabetic(), " ");
+    let unfolding = computed.replace(|other: char| !other.is_alphabetic() && other != '_', " ");
     format!(
         "-- One history with the original's answers. Assumes nothing.\n\
          use Prim.Native.Nat.{{ℕ}}\n\
-         use mathlib.Core.Path.{{_≡_, refl}}\n\
-         use mathlib.Core.List.{{List, [], _∷_, _++_}}\n\
+         use mathlib.Core.Path.{{◌≡◌, refl}}\n\
+         use mathlib.Core.List.{{List, [], ◌∷◌, ◌++◌}}\n\
          use mathlib.Core.Bool.{{Bool, true, false}}\n\
          use lib.ListN.{{replicate}}\n\
-         use Rattle·{model}.specs.{calls_module}.{{{call_type}, {answer_type}}}\n\
-         use Rattle·{own_crate}·proofs.proofs.{used}\n\n\
+         use Rattle.{model}.specs.{calls_module}.{{{call_type}, {answer_type}}}\n\
+         use Rattle.{own_crate}.proofs.{used}\n\n\
          as-answered :\n  {computed} {pages} (\n    {calls})\n  ≡ {answers}\n\
          unfolding {unfolding}\n\
          as-answered = refl\n",
@@ -57,7 +57,7 @@ pub fn calls_term(calls: &[Call]) -> String {
 pub fn answers_module(unfolded: &[(String, String, Vec<String>)]) -> String {
     let uses: String = unfolded
         .iter()
-        .map(|(owner, module, _)| format!("use Rattle·{owner}.specs.{module} as {}\n", alias(owner, module)))
+        .map(|(owner, module, _)| format!("use Rattle.{owner}.specs.{module} as {}\n", alias(owner, module)))
         .collect();
     let unfolding: Vec<String> = unfolded
         .iter()
@@ -67,20 +67,20 @@ pub fn answers_module(unfolded: &[(String, String, Vec<String>)]) -> String {
         "-- The model's answers, with all that the checker unfolds to compute them. Assumes nothing.\n\
          use Prim.Native.Nat.{{ℕ}}\n\
          use mathlib.Core.List.{{List, map}}\n\
-         use Rattle·{model}.specs.{heap_module}.{{Heap}}\n\
-         use Rattle·{model}.specs.{calls}.{{{call_type}, {answer_type}}}\n\
-         use Rattle·{model}.specs.{history} as Histories\n\
+         use Rattle.{model}.specs.{heap_module}.{{Heap}}\n\
+         use Rattle.{model}.specs.{calls}.{{{call_type}, {answer_type}}}\n\
+         use Rattle.{model}.specs.{history} as Histories\n\
          use {rules}.{{{rules_of}}}\n\
          {uses}\n\
          unfoldable pub computed : List ℕ → ℕ → List {call_type} → List {answer_type}\n\
          unfolding {unfolding}\n\
          computed rows size calls = Histories.{answers} size ({rules_of} rows) calls\n\n\
-         unfoldable pub computedFrom : Heap → ℕ → List {call_type} → List {answer_type}\n\
+         unfoldable pub computed_from : Heap → ℕ → List {call_type} → List {answer_type}\n\
          unfolding computed\n\
-         computedFrom heap size calls = map (λ (e : Histories.Event). e .answer) (Histories.{events_from} size heap calls)\n\n\
-         unfoldable pub computedOriginal : ℕ → List {call_type} → List {answer_type}\n\
+         computed_from heap size calls = map (λ (e : Histories.Event). e.answer) (Histories.{events_from} size heap calls)\n\n\
+         unfoldable pub computed_original : ℕ → List {call_type} → List {answer_type}\n\
          unfolding computed\n\
-         computedOriginal size calls = {original} size calls\n",
+         computed_original size calls = {original} size calls\n",
         model = names::CRATE,
         calls = names::CALLS_MODULE,
         history = names::HISTORY_MODULE,

@@ -11,25 +11,25 @@ pub const HISTORY_MODULE: &str = "History";
 pub const CALL_TYPE: &str = "Call";
 pub const ANSWER_TYPE: &str = "Answer";
 /// The rules that an opening's rows give, and those of none.
-pub const RULES_MODULE: &str = "Rattle·rules.specs.Rules";
-pub const RULES_OF: &str = "rulesOf";
-pub const PLAIN_RULES: &str = "plainRules";
+pub const RULES_MODULE: &str = "Rattle.rules.specs.Rules";
+pub const RULES_OF: &str = "rules_of";
+pub const PLAIN_RULES: &str = "plain_rules";
 /// The answers of a history from an opening, by the arena's length, the rules and the calls, in the second.
 pub const ANSWERS: &str = "answers";
 /// The same by document 01's own hole store, from an opening without rows, and its module.
 pub const ORIGINAL_MODULE: &str = "Original";
-pub const ORIGINAL_ANSWERS: &str = "originalAnswers";
+pub const ORIGINAL_ANSWERS: &str = "original_answers";
 
 /// The constructor of a call; none of the pool's, whose model is a crate of its own.
 pub const fn call(kind: Kind) -> Option<&'static str> {
     Some(match kind {
-        Kind::TakeBlocks => "takeBlocks",
-        Kind::MediumTakeBlocks => "mediumTakeBlocks",
-        Kind::ReleaseBlocks => "releaseBlocks",
-        Kind::MediumReleaseBlocks => "mediumReleaseBlocks",
-        Kind::ReleaseBinChunks => "releaseBinChunks",
+        Kind::TakeBlocks => "take_blocks",
+        Kind::MediumTakeBlocks => "medium_take_blocks",
+        Kind::ReleaseBlocks => "release_blocks",
+        Kind::MediumReleaseBlocks => "medium_release_blocks",
+        Kind::ReleaseBinChunks => "release_bin_chunks",
         Kind::Commit => "commit",
-        Kind::GrowFrontier => "growFrontier",
+        Kind::GrowFrontier => "grow_frontier",
         Kind::Release => "release",
         Kind::Contains => "contains",
         Kind::Report => "report",
@@ -43,7 +43,7 @@ pub const TAKEN: &str = "taken";
 pub const FATE: &str = "fate";
 pub const FATES: &str = "fates";
 pub const RUN: &str = "run";
-pub const NO_RUN: &str = "noRun";
+pub const NO_RUN: &str = "no_run";
 pub const GROWN: &str = "grown";
 pub const RELEASED: &str = "released";
 pub const CONTAINED: &str = "contained";
@@ -52,25 +52,25 @@ pub const REPORTED: &str = "reported";
 pub const FIGURES: [&str; 6] = ["commits", "reuses", "abandoned", "held", "idle", "overlap"];
 
 /// The events of a history from a heap, and the heap after it, in the module of histories; the heap after an opening with rules.
-pub const EVENTS_FROM: &str = "eventsFrom";
-pub const HEAP_FROM: &str = "heapFrom";
+pub const EVENTS_FROM: &str = "events_from";
+pub const HEAP_FROM: &str = "heap_from";
 pub const HEAP_MODULE: &str = "Heap";
-pub const NEW_HEAP: &str = "newHeap";
+pub const NEW_HEAP: &str = "new_heap";
 
 /// A heap written down: the direct calls hold the pages below the frontier, but for `holes` holes of one page, at every
 /// odd page from the first on, that were given in this order.
-pub const COMBED_USES: &str = "use Rattle·model.specs.HoleStore.{hole, store}
-use Rattle·model.specs.Arena.{ready}
-use Rattle·model.specs.Heap.{Heap, direct, nobody, newHeap}
-use Rattle·model.specs.declared.Hole.{Hole}
-use Rattle·rules.specs.Rules.{plainRules}
+pub const COMBED_USES: &str = "use Rattle.model.specs.HoleStore.{hole, store}
+use Rattle.model.specs.Arena.{ready}
+use Rattle.model.specs.Heap.{Heap, direct, nobody, new_heap}
+use Rattle.model.specs.declared.Hole.{Hole}
+use Rattle.rules.specs.Rules.{plain_rules}
 ";
 pub const COMBED: &str = "comb : ℕ → ℕ → List Hole
 comb zero first = []
 comb (suc k) first = hole first 1 ∷ comb k (first + 2)
 
 unfoldable pub combed : ℕ → ℕ → Heap
-unfolding newHeap comb
+unfolding new_heap comb
 combed frontier holes = record {
   arena = record {
     status = ready;
@@ -81,18 +81,18 @@ combed frontier holes = record {
     abandoned = 0;
   };
   holder = λ x. cond (ltb x frontier && not (eqb (x % 2) 1 && ltb x (2 * holes))) direct nobody;
-  classes = (newHeap plainRules) .classes;
-  rules = plainRules;
+  classes = (new_heap plain_rules).classes;
+  rules = plain_rules;
 }
 ";
 /// What of two heaps is compared: `{}` stands for a heap, and the list of pages is `pages`.
 pub const COMPARED: [&str; 8] = [
-    "{} .arena .status",
-    "{} .arena .frontier",
-    "{} .arena .store .holes",
-    "{} .arena .store .total",
-    "{} .arena .commits",
-    "{} .arena .reuses",
-    "{} .arena .abandoned",
-    "map ({} .holder) pages",
+    "{}.arena.status",
+    "{}.arena.frontier",
+    "{}.arena.store.holes",
+    "{}.arena.store.total",
+    "{}.arena.commits",
+    "{}.arena.reuses",
+    "{}.arena.abandoned",
+    "map {}.holder pages",
 ];

@@ -60,8 +60,8 @@ const STEP_LIMIT: &str = "stopped at the step limit";
 
 fn run_checker(folder: &Path) -> Result<(bool, String), String> {
     let output = Command::new("rt")
-        .args(["check", OWN])
-        .current_dir(folder)
+        .arg("check")
+        .current_dir(folder.join("crates").join(OWN))
         .output()
         .map_err(|error| format!("`rt check` cannot be run: {error}"))?;
     let said = String::from_utf8_lossy(&output.stdout).into_owned() + &String::from_utf8_lossy(&output.stderr);
@@ -86,7 +86,10 @@ fn build(root: &Path, folder: &Path, asked: &[usize], cases: &[Case], rules: Rul
     let _ = fs::remove_dir_all(&own);
     fs::create_dir_all(own.join("src"))?;
     fs::create_dir_all(own.join("proofs"))?;
-    fs::write(own.join("src/lib.rt"), "// The equations are in proofs/.\npub fn keep(x: u32) -> u32 {\n    x\n}\n")?;
+    fs::write(
+        own.join("src/lib.rt"),
+        "// The equations are in proofs/.\n#![tactic(auto)]\n\npub fn keep(x: u32) -> u32 {\n    x\n}\n",
+    )?;
     let mut modules = String::from("pub mod Answers\n");
     fs::write(own.join("proofs/Answers.antt"), equations::answers_module(&unfoldable(root, &all)?))?;
     if asked.iter().any(|&at| cases[at].start.is_some()) {

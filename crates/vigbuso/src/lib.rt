@@ -1,4 +1,4 @@
-// The exported C functions. Numbers and slices only; each is thin over a proved function.
+// The calls that `vigbuso_c` exports. Numbers and slices only; each is thin over a proved function.
 #![tactic(auto)]
 
 pub mod abi;
