@@ -4,7 +4,7 @@
 ghost use Rattle.std.specs.Prelude.{◌≡◌, ◌<◌};
 ghost use Rattle.mediumlist.specs.Line.{line_of};
 
-use libc::STDOUT_FILENO;
+use std::io;
 
 // What a line says of a class.
 #[derive(Drop)]
@@ -28,22 +28,22 @@ fn describe(class: u32) -> Line
     }
 }
 
-fn print(n: u32, end: u8) {
-    io::print_decimal(STDOUT_FILENO, n as u64);
-    io::write_all(STDOUT_FILENO, &[end]);
+fn print(rt: &impl Print, n: u32, end: char) -> io::Result<()> {
+    print!(rt; "{n}{end}")
 }
 
-fn print_line(line: Line) {
-    print(line.class, b' ');
-    print(line.bytes, b' ');
-    print(line.pages, b' ');
-    print(line.blocks, b'\n');
+fn print_line(rt: &impl Print, line: Line) -> io::Result<()> {
+    print(rt, line.class, ' ')?;
+    print(rt, line.bytes, ' ')?;
+    print(rt, line.pages, ' ')?;
+    print(rt, line.blocks, '\n')
 }
 
-fn main() {
-    io::write_all(STDOUT_FILENO, b"medium ");
-    print(classes::NUM_MEDIUM, b'\n');
+fn main(rt: HostRuntime) -> io::Result<()> {
+    print!(rt; "medium ")?;
+    print(&rt, classes::NUM_MEDIUM, '\n')?;
     for class in 0..classes::NUM_MEDIUM {
-        print_line(describe(class));
+        print_line(&rt, describe(class))?;
     }
+    Ok(())
 }

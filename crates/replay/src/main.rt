@@ -5,10 +5,11 @@
 mod arena_calls;
 mod line;
 
-ghost use Rattle.std.specs.Prelude.{◌≡◌, length};
+ghost use Rattle.std.specs.Prelude.{◌≡◌, ◌≤◌, IfOk, length};
 
-use libc::{STDIN_FILENO, STDOUT_FILENO};
 use line::{Numbers, Words};
+use std::io;
+use std::io::Read;
 use vigbuso::release_calls::{vigbuso_medium_release_blocks, vigbuso_release_blocks};
 
 // The calls that lend the heap a part of the line or of the answers: each is made with the numbers of its line, and what it answers is put down. Their
@@ -238,13 +239,27 @@ fn book() -> [u32; 1158464]
     [0; 1158464]
 }
 
-fn main() {
+// Reads until the room is full or the input ends, and returns how many bytes it put at the start of the room.
+fn read_full(input: &mut impl Read, text: &mut [u8]) -> io::Result<usize>
+    ensures { IfOk result (λ n. n ≤ length text.new) }
+{
+    let mut done = 0;
+    while done < text.len() {
+        let n = input.read(&mut text[done..])?;
+        if n == 0 {
+            break;
+        }
+        done += n;
+    }
+    Ok(done)
+}
+
+fn main(rt: HostRuntime) -> io::Result<()> {
     let mut text = room();
     let mut meta = book();
-    let n = io::read_full(STDIN_FILENO, &mut text);
+    let n = read_full(&mut rt.stdin(), &mut text)?;
     let end = replay(&text[..n], &mut meta);
-    io::print_decimal(STDOUT_FILENO, end.lines);
-    io::write_all(STDOUT_FILENO, b" lines replayed, ");
-    io::print_decimal(STDOUT_FILENO, end.differ);
-    io::write_all(STDOUT_FILENO, b" differ\n");
+    let lines = end.lines;
+    let differ = end.differ;
+    println!(rt; "{lines} lines replayed, {differ} differ")
 }

@@ -1,5 +1,5 @@
 -- A line as it is read (src/line.rt): a number for each of its words.
---     low           the low half of a number
+--     low            the low half of a number
 --     read_byte      a number with a byte more
 --     put_at         where it is put
 use Rattle.std.specs.Prelude.{ℕ, ◌+◌, ◌*◌, ◌%◌, ◌^◌, cond, ◌&&◌, ◌||◌, List, ◌==◌, nat_le, nat_lt, slice_set}
