@@ -117,8 +117,8 @@ change_places s o xs x y p q ex ey ne one =
   where
     home : (reaches s xs x ≡ false) ⊎ (reaches s (xs ++ x ∷ []) y ≡ false)
         → AtHome (heap_after (pages s) (rules s) (calls s xs)) x p ⊎ AtHome (heap_after (pages s) (rules s) (calls s xs)) y q
-    home (inl r) = inl (at_home _ x p ex r)
-    home (inr r) = inr (at_home _ y q ey (sym (reaches-stays s xs y x q ey (rw ex ne)) ∙ r))
+    home (inl r) = inl (at_home (heap_after (pages s) (rules s) (calls s xs)) x p ex r)
+    home (inr r) = inr (at_home (heap_after (pages s) (rules s) (calls s xs)) y q ey (sym (reaches-stays s xs y x q ey (rw ex ne)) ∙ r))
 
 -- ---- two takes that both commit
 -- the page of the first block that a take answers: on a new heap, and after a take of another class

@@ -126,7 +126,7 @@ module _ (b : List ℕ) (c : ℕ) (sh : Shape) where
   back_ranges : (m q : ℕ) → page_valid b sh m q ≡ fits b (back_reads b sh m q)
   unfolding page_valid header_valid fits back_reads
   back_ranges m q =
-      rw (every-cond, and-true (in_range b (code (prev_of q))))
+      rw (every-cond (in_range b), and-true (in_range b (code (prev_of q))))
       (back_as (in_range b (carved_fits q sh.capacity)) (in_range b (free_with q m)) (in_range b (virgin_flag q)) (in_range b (listed_flag q)) (links_valid b q))
 
   row_ranges : row_valid b c ≡ fits b (row_reads c)

@@ -21,7 +21,7 @@ use Rattle.demands.proofs.Starts.{as_opening}
 -- it is told from calls and answers alone
 bare-reserved : (s : Status) (vs : List Event) → reserved_from s (bare vs) ≡ reserved_from s vs
 bare-reserved s [] = refl
-bare-reserved s (v ∷ vs) = bare-reserved _ vs ∙ ap (λ t. reserved_from t vs) (same s)
+bare-reserved s (v ∷ vs) = bare-reserved (reserved_next (record { call = v.call; answer = v.answer; run = none }) s) vs ∙ ap (λ t. reserved_from t vs) (same s)
   where
     same : (t : Status) → reserved_next (record { call = v.call; answer = v.answer; run = none }) t ≡ reserved_next v t
     same unasked = refl
