@@ -1,5 +1,5 @@
 -- Lists by index: tests of every element, and the pages of a list of chunks.
-use Rattle.facts.proofs.Prelude.{ℕ, zero, suc, ◌-◌, ◌<◌, arith, true, false, not, true≢false, List, [], ◌∷◌, map, ◌≡◌, refl, sym, ap}
+use Rattle.facts.proofs.Prelude.{ℕ, zero, suc, ◌<◌, arith, true, false, not, true≢false, List, [], ◌∷◌, map, ◌≡◌, refl, sym, ap}
 use Rattle.facts.proofs.Prelude.{◌∙◌, eqb, length, eqb-true, eq-eqb, not-true, elem, distinct, by_cases, and_left, and_right, or_right}
 use Rattle.words.specs.Word.{page_of}
 use Rattle.chunks.specs.way.Tally.{page_in}

@@ -1,5 +1,5 @@
 -- Placing one chunk's page, and the loop over the chunks.
-use Rattle.facts.proofs.Prelude.{ℕ, zero, suc, ◌+◌, ◌-◌, ◌^◌, ◌≤◌, ◌<◌, arith, add-one, Bool, true, List, [], ◌∷◌, ◌++◌, append_assoc, ◌≡◌}
+use Rattle.facts.proofs.Prelude.{ℕ, zero, suc, ◌+◌, ◌^◌, ◌≤◌, ◌<◌, arith, add-one, Bool, true, List, [], ◌∷◌, ◌++◌, append_assoc, ◌≡◌}
 use Rattle.facts.proofs.Prelude.{refl, sym, ap, ◌∙◌, ltb, leb, length, get_or, set, take, drop, length-set, take-append-drop, drop-cons}
 use Rattle.facts.proofs.Prelude.{drop-length, take-suc-set, drop-set-lt, leb-true, lt-ltb, ltb-true, eq-eqb, ne_eqb, every, and_left, and_right}
 use mir.Val.{Fits}

@@ -1,7 +1,7 @@
 -- Blocks taken, and pushed one after another, the list's last first.
 --     push-length     the book's length stays
 --     push-free       FREE of a page grows by the words on it
-use Rattle.facts.proofs.Prelude.{ℕ, zero, suc, ◌+◌, ◌-◌, ◌^◌, ◌≤◌, ◌<◌, arith, add-one, true, false, List, [], ◌∷◌, ◌≡◌, refl, sym, ap, ◌∙◌, eqb, ltb, length, get_or}
+use Rattle.facts.proofs.Prelude.{ℕ, zero, suc, ◌+◌, ◌^◌, ◌≤◌, ◌<◌, arith, add-one, true, false, List, [], ◌∷◌, ◌≡◌, refl, sym, ap, ◌∙◌, eqb, ltb, length, get_or}
 use Rattle.facts.proofs.Prelude.{drop, drop-cons, drop-length, lt-ltb, ltb-true, le-leb, eqb-true, eq-eqb, by_cases, and_left, and_right, drop_past, every_get}
 use Rattle.classes.specs.declared.Shape.{Shape}
 use Rattle.fields.specs.Field.{page, slot, out, free, words, get, put, Has}

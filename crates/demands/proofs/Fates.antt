@@ -24,7 +24,7 @@ use Rattle.model.specs.Entries.{OutIn}
 use Rattle.model.specs.Offered.{blocks_at, HasRun}
 use Rattle.model.proofs.Counts.{count-append, elem-count, count_in_lem, every-count, distinct-count}
 use Rattle.model.proofs.Pages.{out_of, begins_on, is-out, return_moves, none-out_of}
-use Rattle.model.proofs.Sites.{outs, out_count, Once, GoodClass, SiteLaw, SiteLaws, locate-law}
+use Rattle.model.proofs.Sites.{out_count, Once, GoodClass, SiteLaw, SiteLaws, locate-law}
 use Rattle.model.proofs.Weights.{weigh}
 use Rattle.model.proofs.RunsObserved.{each, block_of, block_on, two_runs}
 use Rattle.model.proofs.Offers.{once, run-counted, out-counted, counted-out, outs-on}

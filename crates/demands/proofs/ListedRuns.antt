@@ -1,5 +1,5 @@
 -- A listed history, made by the exported calls, is answered as the listing goes.
-use Rattle.facts.proofs.Prelude.{ℕ, suc, ◌+◌, ◌-◌, ◌^◌, ◌≤◌, ◌<◌, arith, Bool, true, false, cond, false≢true, List, [], ◌∷◌, map, Option}
+use Rattle.facts.proofs.Prelude.{ℕ, suc, ◌+◌, ◌^◌, ◌≤◌, ◌<◌, arith, Bool, true, false, cond, false≢true, List, [], ◌∷◌, map, Option}
 use Rattle.facts.proofs.Prelude.{none, some, Option·none-ne-some, ◌≡◌, refl, sym, ap, ap₂, ◌∙◌, eqb, leb, ltb, eqb-true, eqb-false}
 use Rattle.facts.proofs.Prelude.{ne_eqb, le-leb, lt-leb, leb-true, leb-false, ltb-true, ltb-false, every, below, by_cases, every_of}
 use Rattle.rules.specs.Rules.{rules_of}
@@ -16,7 +16,6 @@ use Rattle.model.proofs.Runs.{covers_in, covers-before, covers-after}
 use Rattle.model.proofs.HeapLaws.{Inv, start, step-inv}
 use Rattle.listing.specs.History.{Call, Run, State, opened, granted, run_of, committed, released, History}
 use Rattle.listing.specs.History as Listed
-use Rattle.demands.specs.Run.{run}
 use Rattle.demands.specs.ListedRuns as Specs
 use Rattle.demands.specs.ListedRuns.{Made, ListedRuns}
 use Rattle.demands.proofs.Histories.{run-answers}

@@ -2,7 +2,7 @@
 --     Keeps          every word of marks is as it was; Clears, as it was or 0
 --     given-fits     a release that gives a run to the arena has tested HOLES, by which the holes are written; gives-tested, of groups
 use Rattle.facts.proofs.Prelude.{ℕ, zero, suc, ◌+◌, ◌-◌, ◌*◌, ◌/◌, ◌≤◌, ◌<◌, arith, Bool, true, false, cond, not, ◌&&◌, ◌||◌, true≢false, false≢true, List}
-use Rattle.facts.proofs.Prelude.{[], ◌∷◌, map, ◌⊎◌, inl, inr, ⊎_elim, Option, none, some, ◌≡◌, refl, sym, ap, ◌∙◌, subst, fun_ext, eqb, ltb, leb, length}
+use Rattle.facts.proofs.Prelude.{[], ◌∷◌, map, inl, inr, ⊎_elim, Option, none, some, ◌≡◌, refl, sym, ap, ◌∙◌, subst, fun_ext, eqb, ltb, leb, length}
 use Rattle.facts.proofs.Prelude.{drop, get_or, set, get_or-set_other, ltb-true, ltb-false, leb-true, leb-false, le-leb, lt-ltb, eqb-true, eqb-false, eq-eqb}
 use Rattle.facts.proofs.Prelude.{ne_eqb, not-true, not-false, is_nil, All, every, filter, elem, distinct, by_cases, and_left, and_right, nor_left, nor_right}
 use Rattle.words.specs.Host.{bad_host}

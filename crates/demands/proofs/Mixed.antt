@@ -1,7 +1,7 @@
 -- The statement over mixed histories holds of every history of the exported calls, on the words: first from an opening (`at-opening`), then from a trace, which is
 -- an opening with what the trace did in front.
 use Rattle.facts.proofs.Prelude.{ℕ, zero, suc, ◌+◌, ◌≤◌, ◌<◌, arith, true, false, cond, not, true≢false, false≢true, List, [], ◌∷◌, ◌++◌, map, reverse, append_assoc, head-eq_of_cons-eq, tail-eq_of_cons-eq}
-use Rattle.facts.proofs.Prelude.{◌↔◌, inl, inr, none, some, ◌≡◌, refl, sym, ap, ap₂, ◌∙◌, subst, eqb, ltb, length, replicate, eq-eqb, ne_eqb, eqb-true, eqb-false, lt-ltb, ltb-true, le-leb, not-true, is_nil, every, All, elem}
+use Rattle.facts.proofs.Prelude.{◌↔◌, inl, inr, some, ◌≡◌, refl, sym, ap, ap₂, ◌∙◌, subst, eqb, ltb, length, replicate, eq-eqb, ne_eqb, eqb-true, eqb-false, lt-ltb, ltb-true, le-leb, not-true, is_nil, every, All, elem}
 use Rattle.facts.proofs.Prelude.{distinct, by_cases, and_left, and_right}
 use Rattle.words.specs.Host.{bad_host, host_max}
 use Rattle.words.specs.Limits.{class_rows}

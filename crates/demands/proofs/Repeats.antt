@@ -17,7 +17,6 @@ use Rattle.model.specs.Release.{of_kind}
 use Rattle.model.specs.History.{heap_after}
 use Rattle.model.proofs.Counts.{filter-le, filter_passes, filter-keeps, each-once, distinct-count}
 use Rattle.calls.specs.Out.{out_at, OutTest, unmarked, repeats, repeat_fault, out_fault}
-use Rattle.calls.specs.Release as Back
 use Rattle.calls.specs.Release.{released_none, release_by, release_blocks}
 use Rattle.calls.specs.Chunks.{chunks_none, release_chunks_by, release_chunks}
 use Rattle.calls.proofs.Out.{no_repeat}

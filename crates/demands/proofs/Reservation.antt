@@ -8,7 +8,6 @@ use Rattle.model.specs.History.{Event, events}
 use Rattle.model.specs.Reservation.{reservation, reserved_from, reserved_next, Contained}
 use Rattle.model.proofs.Theorems as Theorems
 use Rattle.arena.specs.Load.{load_arena}
-use Rattle.demands.specs.Call.{call}
 use Rattle.demands.specs.Run.{Opens, book_after, next, observed}
 use Rattle.demands.specs.Start as Starts
 use Rattle.demands.specs.Start.{Start, pages, rule_rows, lent}

@@ -7,7 +7,7 @@ use Rattle.words.specs.Limits.{class_rows}
 use Rattle.words.specs.Word.{count_of, page_of}
 use Rattle.classes.specs.declared.Shape.{Shape}
 use Rattle.fields.specs.Ranges.{format_valid, head_valid}
-use Rattle.fields.specs.Field.{arena, class, page, size, format, frontier, holes, hole_pages, held, pages, partial, empty, empty_count, cold, cold_count, free, carved, listed, get}
+use Rattle.fields.specs.Field.{arena, class, page, size, format, frontier, holes, hole_pages, held, partial, empty, empty_count, cold, cold_count, free, carved, listed, get}
 use Rattle.rules.specs.declared.Limits.{Limits}
 use Rattle.model.specs.Destination.{destination_of, is_empty, is_cold, is_arena}
 use Rattle.arena.specs.Load.{load_holes, load_arena}

@@ -1,7 +1,7 @@
 -- Computed tests over the two size tables.
 --     block-bytes    an entry's bytes are its class's size in the table
 --     one-first      a word is a block of one run only: no two of a class's runs that overlap have a block at the same place
-use Rattle.facts.proofs.Prelude.{ℕ, ◌+◌, ◌-◌, ◌*◌, ◌%◌, ◌≤◌, ◌<◌, arith, mul-le-mul_right, mul-mod_left, mul-sub, mul_comm, Bool, true, false, ◌||◌, false≢true, ◌≡◌}
+use Rattle.facts.proofs.Prelude.{ℕ, ◌+◌, ◌-◌, ◌*◌, ◌%◌, ◌≤◌, ◌<◌, arith, mul-le-mul_right, mul-mod_left, mul-sub, mul_comm, Bool, true, ◌||◌, false≢true, ◌≡◌}
 use Rattle.facts.proofs.Prelude.{refl, ap, ◌∙◌, eqb, leb, ltb, get_or, eqb-true, lt-ltb, lt-leb, le-ltb, ltb-true, ltb-false, ne_eqb, every, below, by_cases, every-at}
 use Rattle.classes.specs.declared.Shape.{Shape}
 use Rattle.classes.specs.Sizes.{small_sizes, medium_sizes, granule_bytes}

@@ -3,7 +3,7 @@
 --     still-append   a take adds its entries
 --     still_back     a release of one place takes just that entry away
 --     live-bytes     the bytes of the entries not yet released are at most the arena's
-use Rattle.facts.proofs.Prelude.{ℕ, zero, suc, ◌+◌, ◌-◌, ◌*◌, ◌≤◌, arith, Bool, true, false, cond, not, false≢true, List, [], ◌∷◌, ◌++◌, map, inl, inr}
+use Rattle.facts.proofs.Prelude.{ℕ, zero, suc, ◌+◌, ◌-◌, ◌*◌, ◌≤◌, arith, Bool, true, cond, not, false≢true, List, [], ◌∷◌, ◌++◌, map, inl, inr}
 use Rattle.facts.proofs.Prelude.{◌≡◌, refl, sym, ap, ◌∙◌, eqb, ltb, length, eq-eqb, eqb-true, ltb-true, ltb-false, le-ltb, total, filter, by_cases, and_no}
 use Rattle.classes.specs.Sizes.{page_bytes}
 use Rattle.classes.proofs.Shapes.{shape-sound}

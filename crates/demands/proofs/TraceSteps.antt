@@ -29,7 +29,7 @@ use Rattle.arena.specs.Calls.{report_code}
 use Rattle.arena.specs.Valid.{report_valid}
 use Rattle.pages.specs.Stack.{page_at}
 use Rattle.direct.specs.declared.Report.{Report}
-use Rattle.direct.specs.declared.Report.TheVariants.{Refused, Reported}
+use Rattle.direct.specs.declared.Report.TheVariants.{Reported}
 use Rattle.direct.specs.Answer.{report_of}
 use Rattle.calls.specs.Take.{Took}
 use Rattle.calls.specs.Release.{Released, release_blocks}

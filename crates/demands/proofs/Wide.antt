@@ -1,6 +1,6 @@
 -- Document 02, A.11, holds of the exported calls.
 use Rattle.facts.proofs.Prelude.{ℕ, ◌+◌, ◌*◌, ◌/◌, ◌%◌, ◌^◌, ◌≤◌, ◌<◌, arith, mod-lt, mul-le-mul_right, Bool, true, false, ◌&&◌, false≢true, List, [], ◌∷◌, map}
-use Rattle.facts.proofs.Prelude.{some, ◌≡◌, refl, ap, ◌∙◌, eqb, ltb, le-leb, lt-leb, eq-eqb, ne_eqb, eqb-true, every, elem, distinct, count, by_cases, and_no}
+use Rattle.facts.proofs.Prelude.{some, ◌≡◌, refl, ap, ◌∙◌, eqb, ltb, le-leb, lt-leb, eq-eqb, ne_eqb, eqb-true, every, elem, distinct, by_cases, and_no}
 use lib.Pow.{pow_pos}
 use Rattle.words.specs.Host.{host_max}
 use Rattle.words.specs.Word.{kind_bits, granule_of, count_of, page_of}

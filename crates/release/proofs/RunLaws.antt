@@ -7,7 +7,7 @@ use Rattle.facts.proofs.Prelude.{ℕ, suc, ◌+◌, ◌*◌, ◌≤◌, ◌<◌,
 use Rattle.facts.proofs.Prelude.{[], ◌∷◌, ◌≡◌, refl, sym, ◌∙◌, ltb, ltb-true, lt-ltb, le-leb, every, and_left, and_right}
 use Rattle.classes.specs.declared.Shape.{Shape}
 use Rattle.classes.specs.way.Sound.{Sound}
-use Rattle.fields.specs.Field.{arena, out, frontier, first, get, put, same}
+use Rattle.fields.specs.Field.{arena, out, frontier, get, put, same}
 use Rattle.fields.proofs.Laws.{put-comm}
 use Rattle.fields.proofs.Changes.{same-eq}
 use Rattle.pages.specs.Runs.{whole}

@@ -84,8 +84,8 @@ clear-past b q zero j v h l = absurd (omega arith)
 clear-past b q (suc m) j v h l =
     elim (ℕ_discrete j m) [
       | yes z ↦
-        subst (λ x. clear_marks (put b (mark q x) v) q (suc m) ≡ clear_marks b q (suc m)) (sym z)
-        (ap (λ d. put d (mark q m) 0) (clear_later b q m m v (omega arith) (omega arith)) ∙ twice (clear_marks b q m) q m v 0)
+          subst (λ x. clear_marks (put b (mark q x) v) q (suc m) ≡ clear_marks b q (suc m)) (sym z)
+          (ap (λ d. put d (mark q m) 0) (clear_later b q m m v (omega arith) (omega arith)) ∙ twice (clear_marks b q m) q m v 0)
       | no z ↦ ap (λ d. put d (mark q m) 0) (clear-past b q m j v (omega arith) (omega arith))
     ]
 

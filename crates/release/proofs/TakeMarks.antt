@@ -2,7 +2,7 @@
 --     word-taken      in one word
 --     takes-marked    a block marked before: its out bit is cleared, and nothing else is changed
 --     out-past ..     a block of another page: nothing of it is read or changed
-use Rattle.facts.proofs.Prelude.{ℕ, zero, suc, ◌+◌, ◌-◌, ◌*◌, ◌/◌, ◌%◌, ◌^◌, ◌≤◌, ◌<◌, arith, mod-lt, List, ◌≢◌, ◌≡◌, refl}
+use Rattle.facts.proofs.Prelude.{ℕ, zero, suc, ◌+◌, ◌*◌, ◌/◌, ◌%◌, ◌^◌, ◌≤◌, ◌<◌, arith, mod-lt, List, ◌≢◌, ◌≡◌, refl}
 use Rattle.facts.proofs.Prelude.{sym, ap, ◌∙◌, length, get_or, set, length-set, get_or-set_same, get_or-set_other, set-set, set_comm}
 use native.Mathlib.Decide.{ℕ_discrete}
 use lib.Bits.{bit_xor, xor_block, xor_lt, xor_zero_r, xor_self}

@@ -7,7 +7,7 @@ use Rattle.facts.proofs.Prelude.{ap, ◌∙◌, eqb, ltb, leb, length, length-ap
 use Rattle.words.specs.Limits.{class_rows}
 use Rattle.classes.specs.declared.Shape.{Shape}
 use Rattle.classes.specs.way.Sound.{Sound}
-use Rattle.fields.specs.Field.{Field, arena, class, page, out, frontier, partial, next, prev, free, carved, virgin, region, off, get, ok, words}
+use Rattle.fields.specs.Field.{Field, arena, class, page, out, frontier, partial, next, prev, free, carved, region, off, get, ok, words}
 use Rattle.fields.proofs.Laws.{get_put_same, get-put_other, length-put}
 use Rattle.fields.proofs.Outcome.{get_put_at_other}
 use Rattle.fields.proofs.Changes.{Changes, changes_trans}

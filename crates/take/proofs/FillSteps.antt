@@ -3,7 +3,7 @@ use Rattle.facts.proofs.Prelude.{ℕ, zero, suc, ◌+◌, ◌-◌, ◌≤◌, �
 use Rattle.facts.proofs.Prelude.{eqb, length, take, drop, length-append, length-take-le, drop_at, lt-ltb, le-leb, leb-true, not-true, not-false, by_cases}
 use Rattle.words.specs.Limits.{class_rows}
 use Rattle.classes.specs.declared.Shape.{Shape}
-use Rattle.fields.specs.Field.{arena, class, page, frontier, partial, next, prev, free, carved, virgin, words, get}
+use Rattle.fields.specs.Field.{arena, class, page, frontier, partial, next, prev, virgin, words, get}
 use Rattle.model.specs.Page.{word_of}
 use Rattle.pages.specs.Stack.{latest, draw, has_more, spliced, Drawn}
 use Rattle.pages.specs.Links.{unlink}

@@ -1,6 +1,5 @@
 -- A take that is refused leaves the book as it was, and counts no block; none counts more blocks than the class's batch. Its blocks are the same, whatever list is lent.
 use Rattle.facts.proofs.Prelude.{ℕ, suc, ◌-◌, ◌≤◌, arith, Bool, true, false, cond, not, List, [], ◌++◌, Option, some, ◌≡◌, refl, eqb, ltb, length, drop, length-append, by_cases}
-use mathlib.Core.Option as Option
 use Rattle.classes.specs.declared.Shape.{Shape}
 use Rattle.classes.specs.Shape.{shape_of}
 use Rattle.classes.proofs.Shapes.{shape-sound}

@@ -25,7 +25,6 @@ use Rattle.pages.specs.declared.Park.TheVariants.{Empty, Cold}
 use Rattle.pages.specs.way.Pre.{RowPre, UnparkRunPre, LinkPre, NewPre}
 use Rattle.pages.proofs.Draws.{latest-length}
 use Rattle.pages.proofs.Frames.{at_once-le}
-use Rattle.take.specs.declared.call.Take as Taken
 use Rattle.take.specs.declared.call.Take.TheVariants as Answer
 use Rattle.take.specs.declared.take_plan.Plan.{Plan}
 use Rattle.take.specs.declared.take_plan.Plan.TheVariants.{Refused, Nothing, Fill}

@@ -12,7 +12,7 @@ use Rattle.words.specs.Host.{discard_zeroed}
 use Rattle.words.specs.Limits.{class_rows}
 use Rattle.classes.specs.declared.Shape.{Shape}
 use Rattle.classes.specs.way.Sound.{Sound}
-use Rattle.fields.specs.Field.{arena, class, page, frontier, cold_count, words, get}
+use Rattle.fields.specs.Field.{arena, class, frontier, cold_count, words, get}
 use Rattle.fields.specs.Ranges.{max_pages, max_parked}
 use Rattle.fields.specs.Clear.{clear_marks}
 use Rattle.model.specs.Page.{is_medium}
