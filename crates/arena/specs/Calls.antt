@@ -23,7 +23,7 @@ unfoldable pub settled_arena : ℕ → ℕ → List ℕ → Arena → Option ℕ
 settled_arena h m b a none f = store_arena b a
 settled_arena h m b a (some q) f = cond (commit_granted h) (store_arena b (Model.counted f a)) (store_arena (store_holes b 0 a.store.holes) (Model.give m q a))
 
--- after a commit: the model's `commitReady`, `commitAs` and `commit`
+-- after a commit: the model's `commit_ready`, `commit_as` and `commit`
 unfoldable pub ready_arena : ℕ → ℕ → ℕ → List ℕ → Arena → List ℕ
 ready_arena n h m b a = let d = Model.draw n m a in settled_arena h m b d.arena d.run d.fresh
 

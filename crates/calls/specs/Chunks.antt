@@ -1,4 +1,4 @@
--- A group release on the words (`release_bin_chunks`; a group is a chunk): the tests of numbers 7 to 9, then `outFault` (13 for a mark, 15,
+-- A group release on the words (`release_bin_chunks`; a group is a chunk): the tests of numbers 7 to 9, then `out_fault` (13 for a mark, 15,
 -- 10), 11 and 13 in their order, each over both lists, then the chunks in order, then the runs that go to the arena. ws is the list, gs the chunks, fs the lent fates.
 use Rattle.std.specs.Prelude.{ℕ, ◌+◌, ◌*◌, Bool, true, cond, not, ◌&&◌, ◌||◌, List, [], ◌∷◌, ◌++◌, map, eqb, ltb, length, drop}
 use Rattle.facts.specs.Lists.{is_nil, filter, every, elem, distinct}

@@ -1,4 +1,4 @@
--- A release by list on the words: the tests of numbers 7, 9, then `outFault` (13 for a mark, 15, 10), 11, 13 in their order, each over the
+-- A release by list on the words: the tests of numbers 7, 9, then `out_fault` (13 for a mark, 15, 10), 11, 13 in their order, each over the
 -- whole list, then the act. n is the arena's length, c the class's id, sh its shape, ws the list.
 --     page_valid       number 13 on a page to which m blocks come back; row_valid, on the class's row
 --     destination_at   where a page with no block out goes

@@ -1,4 +1,4 @@
--- How many runs the chunks' placing leaves for the arena: as many as number 13 was tested for (`runsGiven`: calls, specs/Chunks).
+-- How many runs the chunks' placing leaves for the arena: as many as number 13 was tested for (`runs_given`: calls, specs/Chunks).
 --     Adds           what placing one page adds to the two stores and to the runs for the arena
 --     place-adds     it goes by the page's words and the stores' counts
 --     gives-count    all chunks

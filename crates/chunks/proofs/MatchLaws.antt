@@ -1,4 +1,4 @@
--- The test on the named book is `pagesMatch`.
+-- The test on the named book is `pages_match`.
 use Rattle.facts.proofs.Prelude.{ℕ, ◌+◌, ◌≤◌, ◌<◌, arith, Bool, true, false, cond, not, ◌&&◌, and-false, and-true, true≢false, List, [], ◌∷◌, map, ◌≡◌, refl, sym}
 use Rattle.facts.proofs.Prelude.{ap, ◌∙◌, eqb, ltb, leb, length, get_or, ltb-true, ltb-false, eqb-true, eqb-false, lt-ltb, le-ltb, eq-eqb, ne_eqb, not-true, filter}
 use Rattle.facts.proofs.Prelude.{every, elem, distinct, count, below, by_cases, bool_eq, and_left, and_right, every-same, every_get, every_made, every-at, every_of}

@@ -1,6 +1,6 @@
 -- Placing a chunk's page leaves the words that placing another reads in their ranges: each code written is the page's own, 0, or one that
 -- passed its test, and a store's count grows only below its limit.
---     Row, Ties       what `rowValid` and `linksValid` test, as bounds
+--     Row, Ties       what `row_valid` and `links_valid` test, as bounds
 --     Steady b c b'   b' has the length and FRONTIER of b, the class's row is in range, and so are a page's links wherever they were in b
 --     put-code ..     one write keeps a steady book so
 --     link-steady ..  the steps on the class's lists

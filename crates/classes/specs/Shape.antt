@@ -24,7 +24,7 @@ small_shape size = small_of (size / granule_bytes) (small_capacity size) (invers
 unfoldable pub medium_shape : ℕ → Shape
 medium_shape size = medium_of (size / granule_bytes) (span_pages size) (span_capacity size) (inverse (size / granule_bytes))
 
--- the numbers that a caller can name; the ids are twice as many (`classRows`)
+-- the numbers that a caller can name; the ids are twice as many (`class_rows`)
 abbrev pub class_count : ℕ
 class_count = 76
 

@@ -3,7 +3,7 @@
 --                    rows cover the classes
 --     refused-book   a refused one leaves the book as it was
 --     no-fault       numbers 1 and 2 do not apply to a book that stands for a heap
---     call-is        `call` is the refinement's `callReply`
+--     call-is        `call` is the refinement's `call_reply`
 use Rattle.facts.proofs.Prelude.{ℕ, ◌+◌, ◌≤◌, arith, true, false, ◌&&◌, false≢true, List, [], ◌≡◌, refl, eqb, ltb, leb, length}
 use Rattle.facts.proofs.Prelude.{eqb-true, leb-true, le-leb, lt-leb, ltb-true, ltb-false, by_cases, and_left, and_right}
 use Rattle.words.specs.Host.{bad_host}

@@ -1,4 +1,4 @@
--- Neighbouring calls of the exported functions may change places (document 02, A.14): the refinement's `change-places`, from any start.
+-- Neighbouring calls of the exported functions may change places (document 02, A.14): the refinement's `change_places`, from any start.
 use Rattle.facts.proofs.Prelude.{ℕ, arith, false, not, true≢false, List, [], ◌∷◌, ◌++◌, append_assoc, ◌⊎◌, inl, inr, some, ◌≡◌, refl, sym, ap, ◌∙◌, get_or, is_nil, by_cases}
 use Rattle.facts.proofs.Bools.{and-false}
 use Rattle.words.specs.Host.{bad_host}

@@ -1,4 +1,4 @@
--- What a caller sees of the exported functions is what `poolCall` says (specs/PoolContracts).
+-- What a caller sees of the exported functions is what `pool_call` says (specs/PoolContracts).
 --     pool-observes-call    of one function
 --     pool-in-turn          of calls in turn; mixed-in-turn, behind a start
 use Rattle.facts.proofs.Prelude.{ℕ, zero, suc, ◌-◌, ◌≤◌, ◌<◌, arith, Bool, true, false, cond, not, ◌||◌, List, [], ◌∷◌, ◌++◌, map}

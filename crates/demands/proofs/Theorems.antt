@@ -67,7 +67,7 @@ run-valid s o xs = rw (as_opening s o xs).answers (Histories.run-valid (pages s)
 pub run-represents : (n : ℕ) (rows b : List ℕ) → Opens n rows b → (xs : List Call) → Represents n (book_after n rows b xs) (heap_after n (rules_of rows) xs)
 run-represents = Histories.run-represents
 
--- an example of document 01 that is a history finds on the words what it finds on the model (`examples-hold`, crate model): each call's
+-- an example of document 01 that is a history finds on the words what it finds on the model (`examples_hold`, crate model): each call's
 -- answer, and the holes stored after the last; with no rows the limits are document 01's (`plain-rules`, crate rules)
 pub examples-run : (rows b : List ℕ) → Opens 64 rows b → (xs : List Call) (zs : List Answer) (hs : List Hole)
     → history (answers_in (run 64 rows b xs)) (load_arena (book_after 64 rows b xs)).store.holes ≡ (on_ruled rows xs zs hs).found

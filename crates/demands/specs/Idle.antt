@@ -8,5 +8,5 @@ use Rattle.demands.specs.Start.{Start, pages, rules, calls}
 
 pub record Idle (s : Start) (xs : List Call) (r : ℕ) (fs : List ℕ) : Type 0 where
   pub unrefused : r ≡ 0
-  -- pages held by the history and by pages, idle ones and their overlap by pages: `held-history`, `idle-counts`, `overlap-counts`
+  -- pages held by the history and by pages, idle ones and their overlap by pages: `held-history`, `idle-counts`, `overlap_counts`
   pub figured : Figured (pages s) (rules s) (calls s xs) (figures_in fs)

@@ -3,7 +3,7 @@
 -- book that the history leaves, and, where the heap is spoken of, from the heap calls that were made. proofs/Mixed proves it.
 --     pool_call        one call on any book, by the definitions that the exported functions' contracts cite
 --     mixed_book       the book that a history leaves
---     mixed_observed   the calls with their answers, in the words of document 01's histories: an alloc is a take of one block in the pool's class (`poolId`), a free
+--     mixed_observed   the calls with their answers, in the words of document 01's histories: an alloc is a take of one block in the pool's class (`pool_id`), a free
 --                     a release of one. So an entry is a place below the count of a take's answer, or an alloc's grant
 --     MixedAt         what holds after every history; MixedDemand, that, and what compares whole histories
 use Rattle.std.specs.Prelude.{ℕ, suc, ◌+◌, ◌*◌, ◌≤◌, ◌<◌, ◌≡◌, ◌⊎◌, ◌↔◌, List, [], ◌∷◌, ◌++◌, map, reverse, true, false, cond, ltb, length, replicate}
@@ -67,7 +67,7 @@ mixed_recorded s xs = recorded (mixed_calls s xs) (mixed_answers s xs)
 abbrev pub mixed_observed : Start → List PoolCall → List Event
 mixed_observed s xs = observed_of (mixed_recorded s xs)
 
--- the heap's calls that were made, a request's own among them, worked out by the rules on values from the arguments of all calls (`poolStep`)
+-- the heap's calls that were made, a request's own among them, worked out by the rules on values from the arguments of all calls (`pool_step`)
 abbrev pub made : Start → List PoolCall → List Call
 made s xs = heap_calls (pages s) (rules s) (mixed_calls s xs)
 
@@ -164,7 +164,7 @@ pub record MixedDemand : Type 0 where
   -- each call answers what the rules of heap and pool say
   pub answers : (s : Start) → Starts s → (xs : List PoolCall) → mixed_answers s xs ≡ map (λ v. v.answer) (pool_events (pages s) (rules s) (mixed_calls s xs))
   -- two starts, two histories, a class of the heap or of the pool, by its id, with the same limits in both and whose calls are equal: its answers are equal exactly
-  -- when what the arena gave it is, worked from the opening over the arguments of all calls (`poolEvents` sees no book), whatever the other classes, heap,
+  -- when what the arena gave it is, worked from the opening over the arguments of all calls (`pool_events` sees no book), whatever the other classes, heap,
   -- pool and hand, ask for besides
   pub alone : (s₁ s₂ : Start) → Starts s₁ → Starts s₂ → (c : ℕ) → rules s₁ c ≡ rules s₂ c → (xs ys : List PoolCall) → pool_calls_of c (mixed_calls s₁ xs) ≡ pool_calls_of c (mixed_calls s₂ ys)
       → (pool_answers_of c (mixed_recorded s₁ xs) ≡ pool_answers_of c (mixed_recorded s₂ ys))

@@ -40,7 +40,7 @@ pub data PoolInTurn : List ℕ → List PoolCall → List PoolReply → Type 0 w
   ends : (b : List ℕ) → PoolInTurn b [] []
   calls : (b : List ℕ) (x : PoolCall) (s : PoolReply) (xs : List PoolCall) (ss : List PoolReply) → PoolObserves b x s → PoolInTurn s.book xs ss → PoolInTurn b (x ∷ xs) (s ∷ ss)
 
--- a start that a caller saw, and calls in turn behind it: the start is one, and the answers and the book are those of `mixedAnswers` and `mixedBook`
+-- a start that a caller saw, and calls in turn behind it: the start is one, and the answers and the book are those of `mixed_answers` and `mixed_book`
 pub record InTurnMixed (s : Start) (b' : List ℕ) (xs : List PoolCall) (ss : List PoolReply) : Type 0 where
   pub starts : Starts s
   pub answers : map (λ r. r.answer) ss ≡ pool_answers_from pool_call (begun s) xs

@@ -1,5 +1,5 @@
 -- Demand 1 for the pool's calls: the numbers that each can answer, in checking order, and whether each applies, as specs/Refusals has them for
--- the others. Where a call goes on to the heap, the heap's own numbers are among them. b is the book, c a class's number, h the host word, w a block's; the heap knows the class by its id (`poolId`).
+-- the others. Where a call goes on to the heap, the heap's own numbers are among them. b is the book, c a class's number, h the host word, w a block's; the heap knows the class by its id (`pool_id`).
 use Rattle.std.specs.Prelude.{ℕ, suc, ◌-◌, ◌≤◌, ◌<◌, cond, not, ◌&&◌, ◌||◌, ◌⊎◌, ◌↔◌, List, [], ◌∷◌, ◌++◌, ◌≡◌, eqb, ltb}
 use Rattle.words.specs.Host.{bad_host, digit}
 use Rattle.classes.specs.Shape.{shape_of, class_count, pool_id}
@@ -30,7 +30,7 @@ alloc_table b c h =
     ++ (13, cond (eqb (count_in b c) 0) (strays b (take_reads b (pool_id c) sh) || barren b (pool_id c) sh) (strays b (top_reads b c)))
     ∷ []
 
--- vigbuso_free: a block that is not granted in this class is not out there, or is in stock (`grantedIn`). Where the stock has no room, the block goes to a release, with that one's words
+-- vigbuso_free: a block that is not granted in this class is not out there, or is in stock (`granted_in`). Where the stock has no room, the block goes to a release, with that one's words
 abbrev pub free_table : List ℕ → ℕ → ℕ → ℕ → List Row
 free_table b c h w =
     let n = get b (arena size) in

@@ -34,7 +34,7 @@ link_field (prev_of p) = page prev p
 
 -- ---- the rows
 pub data Use : Type 0 where
-  -- the arena's record; `heldGives k` where the call gives k pages
+  -- the arena's record; `held_gives k` where the call gives k pages
   state_known : Use
   format_is : Use
   frontier_fits : Use

@@ -55,7 +55,7 @@ bad_length n = eqb n 0 || ltb max_pages n
 abbrev pub too_short : ℕ → List ℕ → Bool
 too_short n b = ltb (length b) (words n)
 
--- 3. "The host word exceeds 15.": `badHost`
+-- 3. "The host word exceeds 15.": `bad_host`
 
 -- 4. "The class is 64 or more, medium 12 or more."
 abbrev pub no_class : ℕ → ℕ → Bool
@@ -65,7 +65,7 @@ no_class many c = leb many c
 abbrev pub short_list : Shape → List ℕ → Bool
 short_list sh l = ltb (length l) sh.batch
 
--- 6. "A run has 0 pages or 2 to the 48th or more, or growth isn't to more pages.": `badRun`, `badGrowth`
+-- 6. "A run has 0 pages or 2 to the 48th or more, or growth isn't to more pages.": `bad_run`, `bad_growth`
 
 -- 7. "The release or group list is empty."
 abbrev pub nothing_listed : List ℕ → List ℕ → Bool
@@ -105,7 +105,7 @@ not_held n b q m = not (held_direct n b q m)
 abbrev pub stopped : ℕ → List ℕ → List ℕ → List ℕ → Bool
 stopped n ws bl fl = ltb (carried n (room_of bl fl) ws) (length ws)
 
--- Document 02's others: 19, 18 and 17 are `badRows`, `twoRows` and `no_row`; 14 is `badPlan`; 20 is `badListing`; 21 is `badGame`; 22, 23 and 24 are `badRate`, `badTop` and `badSlots`.
+-- Document 02's others: 19, 18 and 17 are `bad_rows`, `two_rows` and `no_row`; 14 is `bad_plan`; 20 is `bad_listing`; 21 is `bad_game`; 22, 23 and 24 are `bad_rate`, `bad_top` and `bad_slots`.
 
 -- ---- a table's rows are a number and whether it applies
 abbrev pub Row : Type 0

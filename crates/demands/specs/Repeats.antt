@@ -1,7 +1,7 @@
 -- Document 02, A.2 and A.3, over the exported calls: which answers they changed, on any book and for any call; and that no mark is left.
 -- proofs/Repeats proves it.
---     call_by           a call, with another test of a release's blocks in its place; by `outFault` it is `call`
---     as_in01           document 01's test; `repeatFault` is A.2's
+--     call_by           a call, with another test of a release's blocks in its place; by `out_fault` it is `call`
+--     as_in01           document 01's test; `repeat_fault` is A.2's
 --     repeats_first     "a block out in this class stands twice, with no earlier fault"
 --     RepeatExactly    the answers that A.2 changed are those, from 10 to 15
 --     marks_first       the word of marks of a listed block out in this class is not 0, with no earlier fault

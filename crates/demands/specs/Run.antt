@@ -1,6 +1,6 @@
 -- Histories on the words (document 01, "The histories of demand 3").
 --     Opens       an arena of n pages is opened on the book b with these rule rows (document 02, A.9), and not refused; `Room` says when
---     run         the replies to the calls of a history from that opening; `bookAfter` the book that it leaves
+--     run         the replies to the calls of a history from that opening; `book_after` the book that it leaves
 --     next        the reply to one more call
 --     observed    the calls with their answers, as the model's definitions of entries, holds and a class's answers read them
 --     recounted   the same with what the arena gave at each call, as the definitions of a class's runs read them

@@ -52,7 +52,7 @@ pub record Yielding (size : ℕ) (rules : Rules) (xs : List Call) : Type 0 where
   pub takes : (c h : ℕ) (l : List ℕ) → TakeYields (answer (shape_of c) ((heap_after size rules xs).rules c) ((heap_after size rules xs).classes c) (take h l))
 
 -- Demand 2: what is at hand is offered. The runs of a class and their blocks are told from the history, and its lists say no more than that:
--- a take asks the arena (`takeFrom`) exactly if every block of every run of its class is out. One that answers fewer blocks than it may
+-- a take asks the arena (`take_from`) exactly if every block of every run of its class is out. One that answers fewer blocks than it may
 -- leaves none at hand in a run that has one out, and none answers more.
 pub record Offered (size : ℕ) (rules : Rules) (xs : List Call) : Type 0 where
   pub spent : (c : ℕ) → Spent (events size rules xs) c ↔ NoneListed ((heap_after size rules xs).classes c)

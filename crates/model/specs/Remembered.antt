@@ -67,7 +67,7 @@ choose n (h ∷ hs) m =
 
 -- n pages were taken from hole i, which was x, and hs are the holes now: "Both then set the memory of the length the hole had to its lowest
 -- index, or to nothing"; a cut's remainder is remembered. The holes are the model's: "A longer hole is cut at its front and keeps its index. A
--- used-up hole is replaced by the last one" (`takeAt`).
+-- used-up hole is replaced by the last one" (`take_at`).
 unfoldable pub forget : ℕ → ℕ → Hole → List Hole → Memory → Memory
 forget n i x hs m = cond (ltb n x.pages) (remember (x.pages - n) (some i) (refresh x.pages hs m)) (refresh x.pages hs m)
 
@@ -118,7 +118,7 @@ pub record Given : Type 0 where
 abbrev pub given : State → Option ℕ → Bool → Given
 given s r f = record { state = s; run = r; fresh = f }
 
--- "Then holes, then the frontier" (`drawFrom`)
+-- "Then holes, then the frontier" (`draw_from`)
 unfoldable pub draw_by : ℕ → ℕ → State → Choice → Option ℕ → Given
 draw_by size n s c none = let g = draw_from size n s.arena none in given (state g.arena c.memory s.acts) g.run g.fresh
 draw_by size n s c (some i) =

@@ -7,7 +7,7 @@ use Rattle.classes.specs.Sizes.{granule_bytes}
 abbrev pub count_max : ℕ
 count_max = 255
 
--- 256 KiB of blocks, but 8 at least and `stockLimit` at most
+-- 256 KiB of blocks, but 8 at least and `stock_limit` at most
 abbrev pub stock_bytes : ℕ
 stock_bytes = 262144
 

@@ -1,5 +1,5 @@
 -- An alloc, a free and a trim on the words, from number 9 on: the answer and the book, for any book. n is the arena's length, c the
--- class's number, h the host word, w a block's. The heap knows the class by its id (`poolId`). A refusal leaves the book.
+-- class's number, h the host word, w a block's. The heap knows the class by its id (`pool_id`). A refusal leaves the book.
 --     alloc_on    the stock's top, or one take into a list of the pool's own: the last of its blocks is granted, the others are the stock
 --     granted_in  a word of the class's kind is a block granted there
 --     free_on     numbers 9, 10 and 13; then into the stock, or back to the heap where that holds enough

@@ -1,7 +1,7 @@
 -- A word taken apart: where a block lies, and what the tests on the words say of it.
 --     Sits               the word is a block of the run at q, and its out bit is set
 --     count-words        words of blocks stand as often as their indices
---     out-sits, sits-out     the model's `isOut` says so of a represented page
+--     out-sits, sits-out     the model's `is_out` says so of a represented page
 --     in-sits, sits-in       and so does `out_in`
 --     sits-at            then the word is out in the class, and its run is the page's
 use Rattle.facts.proofs.Prelude.{ℕ, zero, suc, ◌+◌, ◌-◌, ◌*◌, ◌/◌, ◌≤◌, ◌<◌, arith, zero-add, mul-le-mul_right, mul-div_cancel, Bool}

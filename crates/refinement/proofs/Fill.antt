@@ -1,4 +1,4 @@
--- Filling from the partial list: the words do what the model's `fillFromList` says, and change only words of the class.
+-- Filling from the partial list: the words do what the model's `fill_from_list` says, and change only words of the class.
 use Rattle.facts.proofs.Prelude.{ℕ, zero, suc, ◌+◌, ◌-◌, ◌≤◌, ◌<◌, min, arith, true, false, not, ◌||◌, List, [], ◌∷◌, ◌++◌, map, ◌⊎◌, inl, inr, ◌≡◌, refl, sym, ap, ◌∙◌}
 use Rattle.facts.proofs.Prelude.{eqb, ltb, leb, length, drop, length-drop, eq-eqb, ne_eqb, eqb-true, eqb-false, ltb-true, leb-true, leb-false, is_nil, All, by_cases}
 use Rattle.classes.specs.declared.Shape.{Shape}

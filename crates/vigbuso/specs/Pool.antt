@@ -17,7 +17,7 @@ pool_on b c x =
     cond (eqb (class_fault b (host_in x) class_count c) 0)
     (request_on (get b (arena size)) b c x) (pool_reply (refused (class_fault b (host_in x) class_count c)) b)
 
--- the number of the class that has the block's page, below FRONTIER, by OWNER, be it the heap's or the pool's; `classCount` for none, and on a book that 1 or 2
+-- the number of the class that has the block's page, below FRONTIER, by OWNER, be it the heap's or the pool's; `class_count` for none, and on a book that 1 or 2
 -- refuses or whose FORMAT or FRONTIER is out of its range
 unfoldable pub class_on : List ℕ → ℕ → ℕ
 class_on b w =

@@ -1,5 +1,5 @@
 -- Number 11 of a group release: what the test asks, and what it answers. It goes by the page that has a word's granule; where every word's
--- run is that page, it is `chunksMatch` (calls, specs/Chunks). n is the arena's length, ws the list, gs the chunks.
+-- run is that page, it is `chunks_match` (calls, specs/Chunks). n is the arena's length, ws the list, gs the chunks.
 --     words_on       how many listed words have their granule on a page
 --     pages_match    no page twice; the chunks' counts not 0 and the list's; every word's page has a chunk
 use Rattle.std.specs.Prelude.{ℕ, ◌≤◌, Bool, not, ◌&&◌, List, map, ◌≡◌, eqb, ltb, length}

@@ -1,5 +1,5 @@
 -- The act of a group release in passes over the list and the chunks.
--- It ends as `settleChunks` (calls, specs/Chunks) says, which goes chunk by chunk. A small class's run is one page, so that a block's
+-- It ends as `settle_chunks` (calls, specs/Chunks) says, which goes chunk by chunk. A small class's run is one page, so that a block's
 -- page is the one that has its granule.
 --     cleared      the listed blocks are out no longer
 --     push_all      the listed blocks back on their pages' stacks, the list's last first

@@ -1,5 +1,5 @@
 -- The act of a release on a book whose listed blocks are out no longer, and what a release answers.
---     settle_at     the listed blocks come back to the page: `giveBackAt` once their out bits are 0
+--     settle_at     the listed blocks come back to the page: `give_back_at` once their out bits are 0
 --     Parked       a function answered a fate and left the book, as the outcome says
 --     Answered     a call answered a fate or a refusal's number, and left the book
 --     taken_by      the listed blocks out no longer, by words of their marks or by the list
