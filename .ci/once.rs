@@ -61,7 +61,10 @@ fn sources(dir: &Path, into: &mut Vec<PathBuf>) {
     for entry in fs::read_dir(dir).expect("crates/ can be read").flatten() {
         let path = entry.path();
         if path.is_dir() {
-            sources(&path, into);
+            // a check keeps copies in out/
+            if !path.ends_with("out") {
+                sources(&path, into);
+            }
         } else if path.extension().is_some_and(|e| e == "rt" || e == "antt") {
             into.push(path);
         }
