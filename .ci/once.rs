@@ -61,7 +61,10 @@ fn sources(dir: &Path, into: &mut Vec<PathBuf>) {
     for entry in fs::read_dir(dir).expect("crates/ can be read").flatten() {
         let path = entry.path();
         if path.is_dir() {
-            sources(&path, into);
+            // a check keeps copies in a crate's out/; a module may be called so too
+            if !(path.ends_with("out") && path.with_file_name("src").exists()) {
+                sources(&path, into);
+            }
         } else if path.extension().is_some_and(|e| e == "rt" || e == "antt") {
             into.push(path);
         }

@@ -1409,7 +1409,9 @@ class Models:
 
     def __init__(self, work):
         self.folder = work / "model"
-        shutil.copytree(ROOT / "crates", self.folder / "crates", dirs_exist_ok=True, ignore=shutil.ignore_patterns("out"))
+        # A module may be called out too.
+        kept = lambda folder, names: {"out"} & set(names) if "src" in names else set()
+        shutil.copytree(ROOT / "crates", self.folder / "crates", dirs_exist_ok=True, ignore=kept)
         shutil.copy(ROOT / "crates.txt", self.folder)
 
     def place(self, name):
