@@ -17,6 +17,8 @@ import sys
 STAY = {"and-false", "and-true", "length-map", "length-take", "length-take-le", "map-append"}
 # Lemmas that a file has beside a definition that comes to have their name.
 LEMMAS = set("both_words ends_at first_byte fits_on fresh_at fresh_in has_word is_block load_store none_out not_there one_in pair_is put_count".split())
+# Constructors: each has the name of the call that it observes, which files write behind its module's name.
+CALLS = set("take-blocks medium-take-blocks release-blocks medium-release-blocks release-bin-chunks grow-frontier".split())
 MODIFIERS = r"(?:(?:abbrev|pub|private|opaque|abstract|unfoldable|record|data)\s+)*"
 DECLARED = re.compile(rf"^( *)({MODIFIERS})([^\s(){{}}.;,@\"«»:]+(?: [^\s(){{}}.;,@\"«»:=]+)*?)((?: \{{[^{{}}\n]*\}})*(?: \([^()\n]*\))*) :(?: |$)", re.M)
 COMMENT = re.compile(r"(?<![^\s(){}.;,])--[^\n]*")
@@ -64,6 +66,9 @@ def spelled(own, elsewhere):
     for n in sorted(old, key=lambda n: ("-" in n, n)):
         parts = in_snake_case(n).split("-")
         to = "_".join(parts)
+        if n in CALLS:
+            new[n] = to
+            continue
         for i in range(1, len(parts)):
             left, right = "_".join(parts[:i]), "_".join(parts[i:])
             if left in names and right in names:

@@ -28,7 +28,7 @@ use Rattle.vigbuso.specs.Blocks.{code_out, count_out, virgin_out, release_code, 
 use Rattle.refinement.specs.Direct.{Reply, reply}
 use Rattle.refinement.specs.Run.{replies_from}
 use Rattle.demands.specs.Call.{call}
-use Rattle.demands.specs.Contracts.{run_observed, Observes, take-blocks, medium-take_blocks, release-blocks, medium-release_blocks, release_bin_chunks_lem, commit, grow-frontier, release, contains, report, InTurn, ends, calls}
+use Rattle.demands.specs.Contracts.{run_observed, Observes, take_blocks, medium_take_blocks, release_blocks, medium_release_blocks, release_bin_chunks, commit, grow_frontier, release, contains, report, InTurn, ends, calls}
 use Rattle.demands.proofs.Calls.{room-plain}
 use Rattle.words.proofs.Answers.{eqb-digit}
 
@@ -119,13 +119,13 @@ report_says b fs fs' r e =
 
 pub observes_call : {b : List ℕ} {x : Call} {w : Reply} → Observes b x w → w ≡ call b x
 unfolding call
-observes_call (take-blocks c h r k k' v v' b' l l' e) = rw (e.code, e.book, e.list, e.count, e.virgin) (sym (take-read _ _ _ _ _ k v))
-observes_call (medium-take_blocks c h r k k' v v' b' l l' e) = rw (e.code, e.book, e.list, e.count, e.virgin) (sym (take-read _ _ _ _ _ k v))
-observes_call (release-blocks c h r f f' b' ws e) = rw (e.code, e.book, e.fate) (sym (list_read _ _ _ f))
-observes_call (medium-release_blocks c h r f f' b' ws e) = rw (e.code, e.book, e.fate) (sym (list_read _ _ _ f))
-observes_call (release_bin_chunks_lem c h r b' ws gs fs fs' e) = rw (e.code, e.book, e.fates)
+observes_call (take_blocks c h r k k' v v' b' l l' e) = rw (e.code, e.book, e.list, e.count, e.virgin) (sym (take-read _ _ _ _ _ k v))
+observes_call (medium_take_blocks c h r k k' v v' b' l l' e) = rw (e.code, e.book, e.list, e.count, e.virgin) (sym (take-read _ _ _ _ _ k v))
+observes_call (release_blocks c h r f f' b' ws e) = rw (e.code, e.book, e.fate) (sym (list_read _ _ _ f))
+observes_call (medium_release_blocks c h r f f' b' ws e) = rw (e.code, e.book, e.fate) (sym (list_read _ _ _ f))
+observes_call (release_bin_chunks c h r b' ws gs fs fs' e) = rw (e.code, e.book, e.fates)
 observes_call {b} (commit h m r q q' f f' b' e) = rw (e.code, e.book, e.first, e.fresh) (sym (commit-read _ _ _ _ q f (commit-low b h m)))
-observes_call (grow-frontier h q old new r g g' b' e) = rw (e.code, e.book, e.grown) (sym (grow-read _ _ _ g))
+observes_call (grow_frontier h q old new r g g' b' e) = rw (e.code, e.book, e.grown) (sym (grow-read _ _ _ g))
 observes_call (release h q m r b' e) = rw (e.code, e.book)
 observes_call (contains o k r e) = rw (e, eqb-digit)
 observes_call {b} (report r fs fs' e) = report_says b fs fs' r e

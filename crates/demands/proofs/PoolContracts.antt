@@ -190,13 +190,13 @@ module _ (b : List ℕ) (c h : ℕ) where
 
 -- no function has a pooled call
 plain : {b : List ℕ} {x : Call} {w : Reply} → Observes b x w → is_pooled x ≡ false
-plain (Contracts.take-blocks c h r k k' v v' b' l l' e) = refl
-plain (Contracts.medium-take_blocks c h r k k' v v' b' l l' e) = refl
-plain (Contracts.release-blocks c h r f f' b' ws e) = refl
-plain (Contracts.medium-release_blocks c h r f f' b' ws e) = refl
-plain (Contracts.release_bin_chunks_lem c h r b' ws gs fs fs' e) = refl
+plain (Contracts.take_blocks c h r k k' v v' b' l l' e) = refl
+plain (Contracts.medium_take_blocks c h r k k' v v' b' l l' e) = refl
+plain (Contracts.release_blocks c h r f f' b' ws e) = refl
+plain (Contracts.medium_release_blocks c h r f f' b' ws e) = refl
+plain (Contracts.release_bin_chunks c h r b' ws gs fs fs' e) = refl
 plain (Contracts.commit h m r q q' f f' b' e) = refl
-plain (Contracts.grow-frontier h q old new r g g' b' e) = refl
+plain (Contracts.grow_frontier h q old new r g g' b' e) = refl
 plain (Contracts.release h q m r b' e) = refl
 plain (Contracts.contains o k r e) = refl
 plain (Contracts.report r fs fs' e) = refl

@@ -19,18 +19,18 @@ run_observed q f = cond (eqb q no_page) no_run (Calls.run q (eqb f 1))
 
 -- each premise is what the function ensures
 pub data Observes (b : List ℕ) : Call → Reply → Type 0 where
-  take-blocks : (c h r k k' v v' : ℕ) (b' l l' : List ℕ) → TakeEnds (take_on 0 64 b c h l) r b' l' k k' v v'
+  take_blocks : (c h r k k' v v' : ℕ) (b' l l' : List ℕ) → TakeEnds (take_on 0 64 b c h l) r b' l' k k' v v'
       → Observes b (Calls.take_blocks c h l) (reply r (taken k' l' (eqb v' 1)) b')
-  medium-take_blocks : (c h r k k' v v' : ℕ) (b' l l' : List ℕ) → TakeEnds (take_on 64 12 b c h l) r b' l' k k' v v'
+  medium_take_blocks : (c h r k k' v v' : ℕ) (b' l l' : List ℕ) → TakeEnds (take_on 64 12 b c h l) r b' l' k k' v v'
       → Observes b (Calls.medium_take_blocks c h l) (reply r (taken k' l' (eqb v' 1)) b')
-  release-blocks : (c h r f f' : ℕ) (b' ws : List ℕ) → ReleaseEnds (Blocks.release_on 0 64 b c h ws) r b' f f'
+  release_blocks : (c h r f f' : ℕ) (b' ws : List ℕ) → ReleaseEnds (Blocks.release_on 0 64 b c h ws) r b' f f'
       → Observes b (Calls.release_blocks c h ws) (reply r (fate f') b')
-  medium-release_blocks : (c h r f f' : ℕ) (b' ws : List ℕ) → ReleaseEnds (Blocks.release_on 64 12 b c h ws) r b' f f'
+  medium_release_blocks : (c h r f f' : ℕ) (b' ws : List ℕ) → ReleaseEnds (Blocks.release_on 64 12 b c h ws) r b' f f'
       → Observes b (Calls.medium_release_blocks c h ws) (reply r (fate f') b')
-  release_bin_chunks_lem : (c h r : ℕ) (b' ws gs fs fs' : List ℕ) → ChunksEnds (chunks_on b c h ws gs fs) r b' fs'
+  release_bin_chunks : (c h r : ℕ) (b' ws gs fs fs' : List ℕ) → ChunksEnds (chunks_on b c h ws gs fs) r b' fs'
       → Observes b (Calls.release_bin_chunks c h ws gs fs) (reply r (fates fs') b')
   commit : (h m r q q' f f' : ℕ) (b' : List ℕ) → CommitEnds (commit_on b h m) r b' q q' f f' → Observes b (Calls.commit h m) (reply r (run_observed q' f') b')
-  grow-frontier : (h q old new r g g' : ℕ) (b' : List ℕ) → GrowEnds (grow_on b h q old new) r b' g g'
+  grow_frontier : (h q old new r g g' : ℕ) (b' : List ℕ) → GrowEnds (grow_on b h q old new) r b' g g'
       → Observes b (Calls.grow_frontier h q old new) (reply r (Calls.grown (eqb g' 1)) b')
   release : (h q m r : ℕ) (b' : List ℕ) → Releases r b' (Direct.release_on b h q m) → Observes b (Calls.release h q m) (reply r released b')
   contains : (o k r : ℕ) → r ≡ digit (contains_on b o k) → Observes b (Calls.contains o k) (reply 0 (contained (eqb r 1)) b)

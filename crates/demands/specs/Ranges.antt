@@ -3,7 +3,7 @@
 --     Use            a row: the word, and how a call uses it
 --     value          what the word holds
 --     range          its range in that use; every bound that is no argument of the row is read from the book
---     inRange        the word is in it
+--     in_range        the word is in it
 --     fits, strays   every listed word is in its range; one is not
 -- No row is of LENGTH, which is number 1's, nor of a word as it is compared for numbers 10 to 12 and 15. MARK is tested before 15, the other
 -- rows last.

@@ -52,30 +52,30 @@ module _ (b : List ℕ) (r : ℕ) (b' : List ℕ) where
   commit-observed h m q q' f f' e = record { number = commit-refuses b h m r b' q q' f f' e; replies = observes_call (Observes.commit h m r q q' f f' b' e) }
 
   pub grow-observed : (h q old new g g' : ℕ) → GrowEnds (grow_on b h q old new) r b' g g' → GrowObserved (Calls.grow_frontier h q old new) r b b' g g'
-  grow-observed h q old new g g' e = record { number = grow-refuses b h q old new r b' g g' e; replies = observes_call (Observes.grow-frontier h q old new r g g' b' e) }
+  grow-observed h q old new g g' e = record { number = grow-refuses b h q old new r b' g g' e; replies = observes_call (Observes.grow_frontier h q old new r g g' b' e) }
 
   pub give-observed : (h q m : ℕ) → Releases r b' (Direct.release_on b h q m) → GiveObserved (Calls.release h q m) r b b'
   give-observed h q m e = record { number = give-refuses b h q m r b' e; replies = observes_call (Observes.release h q m r b' e) }
 
   pub take-observed : (c h : ℕ) (l l' : List ℕ) (k k' v v' : ℕ) → TakeEnds (take_on 0 64 b c h l) r b' l' k k' v v'
       → TakeObserved (Calls.take_blocks c h) r b b' l l' k k' v v'
-  take-observed c h l l' k k' v v' e = record { number = take-refuses 0 64 b c h l r b' l' k k' v v' e; replies = observes_call (Observes.take-blocks c h r k k' v v' b' l l' e) }
+  take-observed c h l l' k k' v v' e = record { number = take-refuses 0 64 b c h l r b' l' k k' v v' e; replies = observes_call (Observes.take_blocks c h r k k' v v' b' l l' e) }
 
   pub medium_take_observed : (c h : ℕ) (l l' : List ℕ) (k k' v v' : ℕ) → TakeEnds (take_on 64 12 b c h l) r b' l' k k' v v'
       → TakeObserved (Calls.medium_take_blocks c h) r b b' l l' k k' v v'
-  medium_take_observed c h l l' k k' v v' e = record { number = take-refuses 64 12 b c h l r b' l' k k' v v' e; replies = observes_call (Observes.medium-take_blocks c h r k k' v v' b' l l' e) }
+  medium_take_observed c h l l' k k' v v' e = record { number = take-refuses 64 12 b c h l r b' l' k k' v v' e; replies = observes_call (Observes.medium_take_blocks c h r k k' v v' b' l l' e) }
 
   pub release-observed : (c h : ℕ) (ws : List ℕ) (f f' : ℕ) → ReleaseEnds (Blocks.release_on 0 64 b c h ws) r b' f f'
       → ListObserved (Calls.release_blocks c h ws) r b b' f f'
-  release-observed c h ws f f' e = record { number = release-refuses 0 64 b c h ws r b' f f' e; replies = observes_call (Observes.release-blocks c h r f f' b' ws e) }
+  release-observed c h ws f f' e = record { number = release-refuses 0 64 b c h ws r b' f f' e; replies = observes_call (Observes.release_blocks c h r f f' b' ws e) }
 
   pub medium_release_observed : (c h : ℕ) (ws : List ℕ) (f f' : ℕ) → ReleaseEnds (Blocks.release_on 64 12 b c h ws) r b' f f'
       → ListObserved (Calls.medium_release_blocks c h ws) r b b' f f'
-  medium_release_observed c h ws f f' e = record { number = release-refuses 64 12 b c h ws r b' f f' e; replies = observes_call (Observes.medium-release_blocks c h r f f' b' ws e) }
+  medium_release_observed c h ws f f' e = record { number = release-refuses 64 12 b c h ws r b' f f' e; replies = observes_call (Observes.medium_release_blocks c h r f f' b' ws e) }
 
   pub chunks-observed : (c h : ℕ) (ws gs fs fs' : List ℕ) → ChunksEnds (chunks_on b c h ws gs fs) r b' fs'
       → ChunksObserved (Calls.release_bin_chunks c h ws gs) r b b' fs fs'
-  chunks-observed c h ws gs fs fs' e = record { number = chunks-refuses b c h ws gs fs r b' fs' e; replies = observes_call (Observes.release_bin_chunks_lem c h r b' ws gs fs fs' e) }
+  chunks-observed c h ws gs fs fs' e = record { number = chunks-refuses b c h ws gs fs r b' fs' e; replies = observes_call (Observes.release_bin_chunks c h r b' ws gs fs fs' e) }
 
 module _ (b : List ℕ) (r : ℕ) where
   pub contains-observed : (o k : ℕ) → r ≡ digit (contains_on b o k) → ContainsObserved (Calls.contains o k) r b
