@@ -3,10 +3,13 @@
 --     refused, settled           what the call answers
 --     no-list .. wrong-chunks    numbers 7, 8 and 9
 --     small-pre                  what the call asks holds of every small class
-use Rattle.facts.proofs.Prelude.{ℕ, ◌≤◌, ◌<◌, arith, Bool, true, false, cond, not, ◌&&◌, ◌||◌, List, [], ◌∷◌, ◌≡◌, refl, sym, ◌∙◌, eqb}
+use Rattle.facts.proofs.Prelude.{ℕ, ◌≤◌, ◌<◌, arith, Bool, true, false, cond, not, ◌&&◌, ◌||◌, List, [], ◌∷◌, ◌≡◌, refl, sym, eqb}
 use Rattle.facts.proofs.Prelude.{ltb, leb, length, lt-ltb, le-ltb, le-leb, ne_eqb, eqb-true, eqb-false, is_nil, every, by_cases, and_left}
 use Rattle.words.specs.Limits.{class_rows}
 use Rattle.words.specs.Word.{chunk_kind}
+use Rattle.words.specs.declared.refusal.Refusal.{Refusal}
+use Rattle.words.specs.Refusal.{number_of}
+use Rattle.words.proofs.Refusals.{positive}
 use Rattle.classes.specs.declared.Shape.{Shape}
 use Rattle.classes.specs.Shape.{small_shape, shape_of, class_count}
 use Rattle.classes.specs.way.Sound.{Sound}
@@ -74,23 +77,19 @@ module _ (n : ℕ) (b : List ℕ) (c : ℕ) (sh : Shape) (ws gs : List ℕ) (a :
   fault-pre = record { class = a.call.class; kinds = and_left (every (of_kind sh.kind) ws) (every (of_kind chunk_kind) gs) a.kinds }
 
   -- ---- each number over the whole list
-  module _ (k : ℕ) (d : List ℕ) (z : Faulted k d n b c sh ws) where
-    pub faulted : (k ≡ 0 → ⊥) → TakenBy k d (test_fault n b c sh ws gs) b sh ws
+  pub faulted : (e : Refusal) (d : List ℕ) → Faulted (number_of e) d n b c sh ws → TakenBy (number_of e) d (test_fault n b c sh ws gs) b sh ws
+  unfolding test_fault
+  faulted e d z =
+      let o : eqb (out_fault n b c sh ws) 0 ≡ false = ne_eqb (out_fault n b c sh ws) 0 (λ y. omega (arith, positive e, z.answer, y)) in
+      rw o (record { answer = z.answer; left = rw o z.left })
+
+  module _ (d : List ℕ) (z : Faulted 0 d n b c sh ws) where
+    pub pass-pre : PassPre n d c sh ws gs
+    pass-pre = rw z.left (record { call = a.call; out = (passed n b c sh ws (sym z.answer)).out; chunks = a.chunks })
+
+    pub passed_on : (r : ℕ) (b' : List ℕ) → TakenBy r b' (pass_fault n d c sh ws gs) d sh ws → TakenBy r b' (test_fault n b c sh ws gs) b sh ws
     unfolding test_fault
-    faulted x =
-        let o : eqb (out_fault n b c sh ws) 0 ≡ false = ne_eqb (out_fault n b c sh ws) 0 (λ y. x (z.answer ∙ y)) in
-        rw o (record { answer = z.answer; left = rw o z.left })
-
-    module _ (e : k ≡ 0) where
-      none : out_fault n b c sh ws ≡ 0
-      none = sym z.answer ∙ e
-
-      pub pass-pre : PassPre n d c sh ws gs
-      pass-pre = rw z.left (record { call = a.call; out = (passed n b c sh ws none).out; chunks = a.chunks })
-
-      pub passed_on : (r : ℕ) (b' : List ℕ) → TakenBy r b' (pass_fault n d c sh ws gs) d sh ws → TakenBy r b' (test_fault n b c sh ws gs) b sh ws
-      unfolding test_fault
-      passed_on r b' p = rw none (rw z.left at p)
+    passed_on r b' p = rw (← z.answer) (rw z.left at p)
 
   -- ---- at once
   pub try_pre : TryPre n b c sh gs
@@ -119,15 +118,15 @@ module _ (n : ℕ) (b : List ℕ) (c : ℕ) (sh : Shape) (ws gs : List ℕ) (a :
     unfolding release_chunks
     answers = rw (a.some, lengths, a.kinds) (by-fault n b c sh ws gs h fs)
 
-  module _ (k : ℕ) (d : List ℕ) (z : TakenBy k d (test_fault n b c sh ws gs) b sh ws) (fs : List ℕ) (v : length gs ≤ length fs) (h : ℕ) where
-    pub refused : (k ≡ 0 → ⊥) → ChunksAnswered k d fs (release_chunks n b c sh h ws gs fs)
-    refused x =
-        let o : eqb (test_fault n b c sh ws gs) 0 ≡ false = ne_eqb (test_fault n b c sh ws gs) 0 (λ y. x (z.answer ∙ y)) in
+  module _ (fs : List ℕ) (v : length gs ≤ length fs) (h : ℕ) where
+    pub refused : (e : Refusal) (d : List ℕ) → TakenBy (number_of e) d (test_fault n b c sh ws gs) b sh ws → ChunksAnswered (number_of e) d fs (release_chunks n b c sh h ws gs fs)
+    refused e d z =
+        let o : eqb (test_fault n b c sh ws gs) 0 ≡ false = ne_eqb (test_fault n b c sh ws gs) 0 (λ y. omega (arith, positive e, z.answer, y)) in
         rw (answers fs v h, o) (record { answer = z.answer; left = rw o at z.left; fates = refl })
 
-    module _ (e : k ≡ 0) where
+    module _ (d : List ℕ) (z : TakenBy 0 d (test_fault n b c sh ws gs) b sh ws) where
       nothing : test_fault n b c sh ws gs ≡ 0
-      nothing = sym z.answer ∙ e
+      nothing = sym z.answer
 
       clear : NoFault n b c sh ws gs
       clear = no-fault n b c sh ws gs nothing

@@ -2,10 +2,9 @@
 --     given-length, given-frontier     the book's length and the frontier stay
 --     given-valid      a give of m pages leaves a book that is valid for the rest
 --     gives-append     runs of two lists
-use Rattle.facts.proofs.Prelude.{ℕ, suc, ◌+◌, ◌-◌, ◌*◌, ◌^◌, ◌≤◌, ◌<◌, arith, add-one, true, false, List, [], ◌∷◌, ◌++◌, ◌≡◌, refl, sym, ap, ◌∙◌, eqb, ltb, leb}
-use Rattle.facts.proofs.Prelude.{length, get_or, drop, drop-cons, ltb-true, le-leb, leb-true, eq-eqb, ne_eqb, every, by_cases, and_left, and_right, drop_past}
-use mir.Val.{Fits}
-use mir.Syntax.{w32}
+use Rattle.std.proofs.lemmas.List.{nil_from_length}
+use Rattle.facts.proofs.Prelude.{ℕ, suc, ◌+◌, ◌-◌, ◌*◌, ◌^◌, ◌≤◌, ◌<◌, arith, true, false, List, [], ◌∷◌, ◌++◌, ◌≡◌, refl, sym, ap, ◌∙◌, eqb, ltb, leb}
+use Rattle.facts.proofs.Prelude.{length, ltb-true, le-leb, leb-true, eq-eqb, ne_eqb, every, by_cases, and_left, and_right}
 use Rattle.words.specs.Word.{page_of}
 use Rattle.classes.specs.declared.Shape.{Shape}
 use Rattle.fields.specs.Field.{Field, arena, hole, format, state, frontier, holes, hole_pages, held, words, get, same, ok}
@@ -257,60 +256,62 @@ module _ (n : ℕ) (b : List ℕ) (sh : Shape) (g f : ℕ) (gs fs : List ℕ) (a
 
 -- ---- one chunk
 -- the fate of a retired run for the arena
-pub fate-fits : Fits w32 (4 + 2)
-fate-fits = record { fits = omega arith }
-
-module _ (n : ℕ) (b : List ℕ) (m g f : ℕ) where
-  pub give-none : (f ≡ 6 → ⊥) → b ≡ give_runs b m (gives_of (page_of g) f)
-  give-none h = rw (ne_eqb f 6 h)
+-- s is the number of a retired run's fate in the arena
+module _ (n : ℕ) (b : List ℕ) (m g f s : ℕ) (z : s ≡ 6) where
+  pub give-none : (f ≡ s → ⊥) → b ≡ give_runs b m (gives_of (page_of g) f)
+  give-none h = rw (ne_eqb f 6 (λ y. h (y ∙ sym z)))
 
   pub give-page : GiveChunkPre n b m g f → page_of g < 2 ^ 32
   give-page a = omega (arith, a.inside, a.few)
 
-  module _ (h : f ≡ 6) (q : ℕ) (j : q ≡ page_of g) where
+  module _ (h : f ≡ s) (q : ℕ) (j : q ≡ page_of g) where
     pub give_in : GiveChunkPre n b m g f → GiveIn b n q m
     give_in a = record {
       long = a.long;
       small = a.few;
       inside = rw j a.inside;
-      valid = rw (eq-eqb f 6 h) at a.valid;
+      valid = rw (eq-eqb f 6 (h ∙ z)) at a.valid;
     }
 
     pub give-one : (b' : List ℕ) → b' ≡ given b q m → b' ≡ give_runs b m (gives_of (page_of g) f)
-    give-one b' e = rw (e, j, eq-eqb f 6 h)
+    give-one b' e = rw (e, j, eq-eqb f 6 (h ∙ z))
 
 -- ---- the loop
 module _ (n : ℕ) (b₀ : List ℕ) (sh : Shape) (gs fs : List ℕ) where
-  -- those before place i are given
-  pub record Giving (b : List ℕ) (i : ℕ) : Type 0 where
-    pub within : i ≤ length gs
+  -- those before the chunks hs, whose fates begin ks, are given
+  pub record Giving (b hs ks : List ℕ) : Type 0 where
     pub long : length b ≡ length b₀
-    pub pre : GiveChunksPre n b sh (drop i gs) (drop i fs)
-    pub same : give_runs b sh.pages (gives_in (drop i gs) (drop i fs)) ≡ give_runs b₀ sh.pages (gives_in gs fs)
+    pub pre : GiveChunksPre n b sh hs ks
+    pub same : give_runs b sh.pages (gives_in hs ks) ≡ give_runs b₀ sh.pages (gives_in gs fs)
 
-  pub giving-none : GiveChunksPre n b₀ sh gs fs → Giving b₀ 0
-  giving-none a = record { within = omega arith; long = refl; pre = a; same = refl }
+  pub giving-none : GiveChunksPre n b₀ sh gs fs → (hs ks : List ℕ) → hs ≡ gs → ks ≡ fs → Giving b₀ hs ks
+  giving-none a hs ks e f = rw (e, f) (record { long = refl; pre = a; same = refl })
 
-  module _ (b : List ℕ) (i : ℕ) (v : Giving b i) (a : GiveChunksPre n b₀ sh gs fs) (h : i < length gs) where
-    here : GiveChunksPre n b sh (get_or gs i 0 ∷ drop (suc i) gs) (get_or fs i 0 ∷ drop (suc i) fs)
-    here = rw (drop-cons gs i 0 h, drop-cons fs i 0 (omega (arith, a.fates))) at v.pre
+  module _ (b hs ks : List ℕ) (v : Giving b hs ks) where
+    module _ (g f : ℕ) (hs' ks' : List ℕ) (d : hs ≡ g ∷ hs') (e : ks ≡ f ∷ ks') where
+      here : GiveChunksPre n b sh (g ∷ hs') (f ∷ ks')
+      here = rw (d, e) at v.pre
 
-    pub giving-pre : GiveChunkPre n b sh.pages (get_or gs i 0) (get_or fs i 0)
-    giving-pre = chunk-pre n b sh (get_or gs i 0) (get_or fs i 0) (drop (suc i) gs) (drop (suc i) fs) here
+      pub giving-pre : GiveChunkPre n b sh.pages g f
+      giving-pre = chunk-pre n b sh g f hs' ks' here
 
-    pub giving-more : (b' : List ℕ) → b' ≡ give_runs b sh.pages (gives_of (page_of (get_or gs i 0)) (get_or fs i 0)) → Giving b' (i + 1)
+      pub giving-more : (b' : List ℕ) → b' ≡ give_runs b sh.pages (gives_of (page_of g) f) → Giving b' hs' ks'
+      unfolding gives_in
+      giving-more b' k =
+          let now = rw (d, e) at v.same in
+          record {
+            long = ap length k ∙ left-length n b sh g f hs' ks' here ∙ v.long;
+            pre = rw k (pre-rest n b sh g f hs' ks' here);
+            same = rw k (sym (gives-append b sh.pages (gives_of (page_of g) f) (gives_in hs' ks')) ∙ now);
+          }
+
+    none-left : length hs ≡ 0 → gives_in hs ks ≡ []
     unfolding gives_in
-    giving-more b' e =
-        let g = get_or gs i 0 in
-        let f = get_or fs i 0 in
-        let now = rw (drop-cons gs i 0 h, drop-cons fs i 0 (omega (arith, a.fates))) at v.same in
-        rw add-one (record {
-          within = omega (arith, v.within);
-          long = ap length e ∙ left-length n b sh g f (drop (suc i) gs) (drop (suc i) fs) here ∙ v.long;
-          pre = rw e (pre-rest n b sh g f (drop (suc i) gs) (drop (suc i) fs) here);
-          same = rw e (sym (gives-append b sh.pages (gives_of (page_of g) f) (gives_in (drop (suc i) gs) (drop (suc i) fs))) ∙ now);
-        })
+    none-left z = rw (nil_from_length hs z)
 
-  pub giving-done : (b : List ℕ) (i : ℕ) → Giving b i → length gs ≤ i → b ≡ give_runs b₀ sh.pages (gives_in gs fs)
-  unfolding gives_in
-  giving-done b i v l = rw (drop_past gs i l) at v.same
+    pub giving-done : length hs ≡ 0 → b ≡ give_runs b₀ sh.pages (gives_in gs fs)
+    giving-done z = rw (none-left z) at v.same
+
+    -- the fates do not end before the chunks
+    pub fates-done : length ks ≡ 0 → b ≡ give_runs b₀ sh.pages (gives_in gs fs)
+    fates-done z = giving-done (omega (arith, v.pre.fates))

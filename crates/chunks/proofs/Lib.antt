@@ -1,4 +1,5 @@
 mod Indices
+mod Chains
 mod NameLaws
 mod MatchLaws
 mod NameSteps

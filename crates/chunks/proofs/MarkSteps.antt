@@ -37,11 +37,8 @@ pub chunk-fits : (n : ℕ) (b : List ℕ) (c : ℕ) (sh : Shape) (m g : ℕ) →
 unfolding is_page
 chunk-fits n b c sh m g a e = omega (arith, ltb-true (page_of g) n e, a.class.few)
 
-pub chunk_in : (n : ℕ) (gs : List ℕ) (i : ℕ) → every (is_page n) gs ≡ true → i < length gs → is_page n (get_or gs i 0) ≡ true
-chunk_in n gs i e l = every_get (is_page n) gs i e l
-
 module _ (n : ℕ) (b : List ℕ) (c : ℕ) (sh : Shape) (m g q : ℕ) (e : q ≡ page_of g) (t : Bool) (k : t ≡ whole n b sh c q) where
-  pub not-run : t ≡ false → false ≡ page_clean n b c sh m g
+  pub not-run : t ≡ false → t ≡ page_clean n b c sh m g
   unfolding page_clean
   not-run h = rw (← e, ← k, h)
 

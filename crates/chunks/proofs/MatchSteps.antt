@@ -1,5 +1,6 @@
 -- match_with: what its calls ask, and its ways out.
 use Rattle.facts.proofs.Prelude.{ℕ, zero, suc, ◌≤◌, arith, Bool, true, false, List, [], ◌∷◌, ◌≡◌, refl, sym, ap, ◌∙◌}
+use Rattle.std.proofs.Common.{replicate}
 use Rattle.facts.proofs.Prelude.{eqb, ltb, length, get_or, ltb-true, eqb-true, lt-ltb, le-leb, every, and_left, and_right}
 use Rattle.words.specs.Word.{page_of}
 use Rattle.fields.specs.Field.{page, tally, word, words}
@@ -16,6 +17,10 @@ zero-at : (cs : List ℕ) (k : ℕ) → every (λ m. eqb m 0) cs ≡ true → ge
 zero-at [] k e = refl
 zero-at (c ∷ cs) zero e = eqb-true c 0 (and_left _ _ e)
 zero-at (c ∷ cs) (suc k) e = zero-at cs k (and_right (eqb c 0) _ e)
+
+pub zeros_are : (n : ℕ) → every (λ m. eqb m 0) (replicate n 0) ≡ true
+zeros_are zero = refl
+zeros_are (suc n) = zeros_are n
 
 -- a page of the arena has its TALLY in the book
 page-there : (n : ℕ) (b : List ℕ) (p : ℕ) → n ≤ max_pages → words n ≤ length b → ltb p n ≡ true → tally_there b p ≡ true

@@ -1,6 +1,6 @@
--- The loops and ways out of all_pages, name_chunks and unname_chunks.
-use Rattle.facts.proofs.Prelude.{ℕ, zero, suc, ◌+◌, ◌-◌, ◌^◌, ◌≤◌, ◌<◌, arith, add-one, sub-one, Bool, true, false, List, ◌≡◌, refl, sym, ◌∙◌, eqb, ltb, length, get_or, set, drop}
-use Rattle.facts.proofs.Prelude.{length-set, drop-cons, get_or-set_same, get_or-set_other, ltb-true, eqb-false, eqb-true, every, by_cases, and_left, and_right, drop_past, every_get}
+-- The ways out of is_page, and the loops of name_chunks and unname_chunks.
+use Rattle.facts.proofs.Prelude.{ℕ, zero, suc, ◌+◌, ◌-◌, ◌^◌, ◌≤◌, ◌<◌, arith, add-one, sub-one, true, List, ◌≡◌, refl, sym, ◌∙◌, eqb, ltb, length, get_or, set}
+use Rattle.facts.proofs.Prelude.{length-set, get_or-set_same, get_or-set_other, ltb-true, eqb-false, eqb-true, every, by_cases, and_left, and_right, every_get}
 use Rattle.words.specs.Word.{page_of}
 use Rattle.fields.specs.Field.{page, tally, word, get, put, Has}
 use Rattle.fields.specs.Ranges.{max_pages}
@@ -9,28 +9,10 @@ use Rattle.chunks.specs.way.Tally.{page_in, tally_in, named, Saved, unnamed}
 use Rattle.chunks.specs.way.Match.{is_page}
 use Rattle.chunks.specs.way.TallyPre.{tally_there, chunk_there, NamePre, Named}
 
--- ---- all_pages
-pub page_test : (v p g n : ℕ) → v ≡ g → p ≡ page_of v → ltb p n ≡ is_page n g
+-- ---- is_page
+pub page_test : (v p g n m : ℕ) → v ≡ g → p ≡ page_of v → m ≡ n → ltb p m ≡ is_page n g
 unfolding is_page
-page_test v p g n e h = rw (h, e)
-
-pub record PagesInv (n : ℕ) (gs : List ℕ) (i : ℕ) : Type 0 where
-  pub within : i ≤ length gs
-  pub rest : every (is_page n) (drop i gs) ≡ every (is_page n) gs
-
-module _ (n : ℕ) (gs : List ℕ) where
-  pub pages-starts : PagesInv n gs 0
-  pages-starts = record { within = omega arith; rest = refl }
-
-  module _ (i : ℕ) (v : PagesInv n gs i) (t : Bool) (l : i < length gs) (e : t ≡ is_page n (get_or gs i 0)) where
-    pub pages-goes_on : t ≡ true → PagesInv n gs (i + 1)
-    pages-goes_on h = record { within = omega arith; rest = rw add-one (rw (drop-cons gs i 0 l, ← e, h) at v.rest) }
-
-    pub pages-stops : t ≡ false → false ≡ every (is_page n) gs
-    pages-stops h = rw (drop-cons gs i 0 l, ← e, h) at v.rest
-
-  pub pages-ends : (i : ℕ) → PagesInv n gs i → length gs ≤ i → true ≡ every (is_page n) gs
-  pages-ends i v l = rw (drop_past gs i l) at v.rest
+page_test v p g n m e h f = rw (h, e, f)
 
 -- ---- a chunk's page is one of an arena, and its TALLY is in the book
 there-at : (b gs : List ℕ) (i : ℕ) → every (chunk_there b) gs ≡ true → i < length gs → (page_in gs i < max_pages) × (word (tally_in gs i) < length b)

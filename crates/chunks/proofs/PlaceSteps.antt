@@ -49,13 +49,13 @@ module _ (b : List ℕ) (c : ℕ) (sh : Shape) (h q : ℕ) (b₁ : List ℕ) (e 
       record { known = a.known; below = a.below; there = a₁.there; head = omega (arith, a₁.low, (row_out b₁ c a₁.row).head) }
 
   module _ (x y : ℕ) (j : x ≡ get b₁ (page carved q)) (k : y ≡ get b₁ (page free q)) where
-    pub goes-retired : (b₂ b₃ : List ℕ) (r : ℕ) → x ≡ y → b₂ ≡ emptied b₁ q → Parked r b₃ (park_at b₂ c sh h q) → Parked (4 + r) b₃ (place_at b c sh h q)
+    pub goes-retired : (b₂ b₃ : List ℕ) (r k : ℕ) → x ≡ y → b₂ ≡ emptied b₁ q → Parked r b₃ (park_at b₂ c sh h q) → k ≡ 4 + r → Parked k b₃ (place_at b c sh h q)
     unfolding place_at
-    goes-retired b₂ b₃ r z l p = rw (← e, ← j, ← k, eq-eqb x y z, ← l) (record { fate = ap (λ f. 4 + f) p.fate; left = p.left })
+    goes-retired b₂ b₃ r k' z l p o = rw (← e, ← j, ← k, eq-eqb x y z, ← l) (record { fate = o ∙ ap (λ f. 4 + f) p.fate; left = p.left })
 
-    pub goes-partial : (b₂ : List ℕ) → (x ≡ y → ⊥) → b₂ ≡ relisted b₁ c q → Parked 0 b₂ (place_at b c sh h q)
+    pub goes-partial : (b₂ : List ℕ) (r : ℕ) → (x ≡ y → ⊥) → b₂ ≡ relisted b₁ c q → r ≡ 0 → Parked r b₂ (place_at b c sh h q)
     unfolding place_at
-    goes-partial b₂ z p = rw (← e, ← j, ← k, ne_eqb x y z) (record { fate = refl; left = p })
+    goes-partial b₂ r z p o = rw (← e, ← j, ← k, ne_eqb x y z) (record { fate = o; left = p })
 
 -- ---- the loop: what is left to place from here comes to what was asked at the start, and the fates before place i stand
 pub record PlaceInv (b : List ℕ) (c : ℕ) (sh : Shape) (h : ℕ) (gs fs b' fs' : List ℕ) (i : ℕ) : Type 0 where

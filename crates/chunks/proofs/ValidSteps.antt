@@ -1,6 +1,7 @@
 -- Number 13's tests of a group release: the loops over the chunks, and the ways out.
-use Rattle.facts.proofs.Prelude.{ℕ, suc, ◌+◌, ◌-◌, ◌*◌, ◌^◌, ◌≤◌, ◌<◌, arith, add-zero, mul-le-mul, add-one, Bool, true, false, and-false, List, [], ◌∷◌, ◌≡◌, refl, sym, ◌∙◌, not, not-true, not-false}
-use Rattle.facts.proofs.Prelude.{eqb, ltb, length, get_or, drop, drop-cons, ltb-true, eq-eqb, ne_eqb, eqb-true, eqb-false, every, by_cases, drop_past, every_get}
+use Rattle.facts.proofs.Prelude.{ℕ, suc, ◌+◌, ◌-◌, ◌*◌, ◌^◌, ◌≤◌, ◌<◌, arith, add-zero, mul-le-mul, add-one, Bool, true, false, ◌&&◌, List, [], ◌∷◌, ◌≡◌, sym, ◌∙◌}
+use Rattle.facts.proofs.Prelude.{eqb, ltb, length, get_or, drop, drop-cons, ltb-true, eq-eqb, ne_eqb, eqb-true, eqb-false, every, by_cases, and_left, and_right, drop_past, every_get}
+use Rattle.chunks.proofs.Chains.{every-item}
 use mir.Val.{Fits}
 use mir.Syntax.{w32}
 use Rattle.words.specs.Word.{count_of, page_of}
@@ -29,10 +30,6 @@ use Rattle.chunks.specs.way.ValidPre.{chunk_valid, with_destination, counted, Pa
 pub chunk-is : (b : List ℕ) (sh : Shape) (g v m q : ℕ) → v ≡ g → m ≡ count_of v → q ≡ page_of g → (r : Bool) → r ≡ page_valid b sh m q → r ≡ chunk_valid b sh g
 chunk-is b sh g v m q e₁ e₂ e₃ r e = e ∙ rw (e₂, e₁, e₃)
 
-pub record PagesInv (b : List ℕ) (sh : Shape) (gs : List ℕ) (i : ℕ) : Type 0 where
-  pub within : i ≤ length gs
-  pub rest : every (chunk_valid b sh) (drop i gs) ≡ every (chunk_valid b sh) gs
-
 module _ (n : ℕ) (b : List ℕ) (gs : List ℕ) (a : PagesPre n b gs) (i : ℕ) (l : i < length gs) where
   page-below : page_of (get_or gs i 0) < n
   page-below = ltb-true (page_of (get_or gs i 0)) n (every_get (λ g. ltb (page_of g) n) gs i a.below l)
@@ -43,19 +40,10 @@ module _ (n : ℕ) (b : List ℕ) (gs : List ℕ) (a : PagesPre n b gs) (i : ℕ
   pub page-fits : page_of (get_or gs i 0) < 2 ^ 32
   page-fits = omega (arith, a.few, page-below)
 
-module _ (b : List ℕ) (sh : Shape) (gs : List ℕ) where
-  pub pages-start : PagesInv b sh gs 0
-  pages-start = record { within = omega arith; rest = refl }
-
-  module _ (i : ℕ) (v : PagesInv b sh gs i) (t : Bool) (l : i < length gs) (e : t ≡ chunk_valid b sh (get_or gs i 0)) where
-    pub pages-go_on : t ≡ true → PagesInv b sh gs (i + 1)
-    pages-go_on h = record { within = omega arith; rest = rw add-one (rw (drop-cons gs i 0 l, ← e, h) at v.rest) }
-
-    pub pages_stop : t ≡ false → false ≡ every (chunk_valid b sh) gs
-    pages_stop h = rw (drop-cons gs i 0 l, ← e, h) at v.rest
-
-  pub pages-end : (i : ℕ) → PagesInv b sh gs i → length gs ≤ i → true ≡ every (chunk_valid b sh) gs
-  pages-end i v l = rw (drop_past gs i l) at v.rest
+pub chunk-there : (n : ℕ) (b : List ℕ) (gs : List ℕ) → PagesPre n b gs → (k g : ℕ) → k < length gs → g ≡ get_or gs k g → PagePre b (page_of g) × (page_of g < 2 ^ 32)
+chunk-there n b gs a k g l e =
+    let z = ltb-true (page_of g) n (every-item (λ g. ltb (page_of g) n) gs k g a.below l e) in
+    (record { there = omega (arith, a.long, z) }, omega (arith, a.few, z))
 
 -- ---- does a chunk return all
 same_test : (m x y : ℕ) → y + m ≤ x → eqb (x - y) m ≡ eqb (y + m) x
@@ -200,7 +188,7 @@ module _ (n : ℕ) (b : List ℕ) (c : ℕ) (sh : Shape) (gs : List ℕ) (x y : 
     given_is : pages_given b c sh gs ≡ r * sh.pages
     given_is = rw (← j, ← h, ← i, ← e)
 
-    pub none-given : r * sh.pages ≡ 0 → true ≡ gives_valid n b (pages_given b c sh gs)
+    pub none-given : r * sh.pages ≡ 0 → eqb (r * sh.pages) 0 ≡ gives_valid n b (pages_given b c sh gs)
     unfolding gives_valid
     none-given z = rw given_is (rw (eq-eqb (r * sh.pages) 0 z))
 
@@ -208,25 +196,26 @@ module _ (n : ℕ) (b : List ℕ) (c : ℕ) (sh : Shape) (gs : List ℕ) (x y : 
     unfolding gives_valid
     some-given z t g = rw given_is (rw (ne_eqb (r * sh.pages) 0 z) g)
 
--- ---- all tests
-module _ (n : ℕ) (b : List ℕ) (c : ℕ) (sh : Shape) (gs : List ℕ) (f : Bool) (e : f ≡ head_valid n b) where
-  pub wrong-head : not f ≡ true → false ≡ chunks_valid n b c sh gs
-  unfolding chunks_valid
-  wrong-head h = rw (← e, not-true f h)
+-- ---- all tests: those before the give
+module _ (n : ℕ) (b : List ℕ) (c : ℕ) (sh : Shape) (gs : List ℕ) where
+  abbrev pub passes : Bool
+  passes = (head_valid n b && every (chunk_valid b sh) gs) && row_valid b c
 
-  module _ (p : Bool) (j : p ≡ every (chunk_valid b sh) gs) where
-    pub no-page : p ≡ false → false ≡ chunks_valid n b c sh gs
-    unfolding chunks_valid
-    no-page h = rw (← j, h) (simp and-false)
+  pub valid-is : chunks_valid n b c sh gs ≡ (passes && gives_valid n b (pages_given b c sh gs))
+  unfolding chunks_valid gives_valid
+  valid-is =
+      by_cases (head_valid n b)
+      (λ e. by_cases (every (chunk_valid b sh) gs) (λ f. by_cases (row_valid b c) (λ g. rw (e, f, g)) (λ g. rw (e, f, g))) (λ f. rw (e, f)))
+      (λ e. rw e)
 
-    module _ (r : Bool) (h : p ≡ true) (k : r ≡ row_valid b c) where
-      pub no_row : r ≡ false → false ≡ chunks_valid n b c sh gs
-      unfolding chunks_valid
-      no_row l = rw (← k, l) (simp and-false)
+  module _ (r : Bool) (e : r ≡ passes) where
+    pub gives-pre : ChunksValidPre n b c sh gs → r ≡ true → PagesGivenPre n b c sh gs
+    gives-pre a h =
+        let x : passes ≡ true = sym e ∙ h in
+        record { all = a; pages = and_right (head_valid n b) _ (and_left (head_valid n b && every (chunk_valid b sh) gs) _ x); row = and_right (head_valid n b && every (chunk_valid b sh) gs) _ x }
 
-      pub gives-last : (t : Bool) → not f ≡ false → r ≡ true → t ≡ gives_valid n b (pages_given b c sh gs) → t ≡ chunks_valid n b c sh gs
-      unfolding chunks_valid gives_valid
-      gives-last t i l g = rw (← e, not-false f i, ← j, h, ← k, l) g
+    pub gives-last : r ≡ true → (t : Bool) → t ≡ gives_valid n b (pages_given b c sh gs) → t ≡ chunks_valid n b c sh gs
+    gives-last h t g = rw (valid-is, ← e, h) g
 
-pub gives-pre : (n : ℕ) (b : List ℕ) (c : ℕ) (sh : Shape) (gs : List ℕ) → ChunksValidPre n b c sh gs → (p r : Bool) → p ≡ every (chunk_valid b sh) gs → p ≡ true → r ≡ row_valid b c → r ≡ true → PagesGivenPre n b c sh gs
-gives-pre n b c sh gs a p r j h k l = record { all = a; pages = sym j ∙ h; row = sym k ∙ l }
+    pub not-passed : r ≡ false → r ≡ chunks_valid n b c sh gs
+    not-passed h = rw (valid-is, ← e, h)

@@ -1,4 +1,5 @@
 // A group release: the numbers in their order, each over both lists, and then the passes. A refusal leaves every word as it was.
+ghost use Rattle.words.specs.Refusal.{code_of};
 ghost use Rattle.calls.specs.Chunks.{release_chunks};
 ghost use Rattle.chunks.specs.way.CallPre.{all_placed, settled_to, pass_fault, test_fault, CallPre, ListedPre, TestPre, PassPre, SettlePre, TakenBy, ChunksAnswered};
 
@@ -11,6 +12,7 @@ use super::valid::chunks_valid;
 use classes::Shape;
 use release::{all_of_kind, out_fault};
 use words::Word;
+use words::refusal::Refusal;
 
 // The blocks back on their stacks, their pages placed, and the runs that leave the class to the arena.
 fn settle_chunks(
@@ -31,40 +33,58 @@ fn settle_chunks(
     give_chunks(meta, n, shape, chunks, fates);
 }
 
-// Numbers 11 and 13, or 0: the listed blocks are out no longer.
-fn pass_chunks(meta: &mut [u32], n: u32, c: u32, shape: Shape, list: &[u64], chunks: &[u64]) -> u32
+// Numbers 11 and 13; else the listed blocks are out no longer.
+fn pass_chunks(
+    meta: &mut [u32],
+    n: u32,
+    c: u32,
+    shape: Shape,
+    list: &[u64],
+    chunks: &[u64],
+) -> Result<(), Refusal>
     requires { PassPre n meta.old c shape list.now chunks.now }
-    ensures { TakenBy result meta.new (pass_fault n meta.old c shape list.now chunks.now) meta.old shape list.now }
+    ensures { TakenBy (code_of result) meta.new (pass_fault n meta.old c shape list.now chunks.now) meta.old shape list.now }
 {
-    if chunks_match(meta, n, list, chunks) {
-        if chunks_valid(meta, n, c, shape, chunks) {
-            take_blocks(meta, n, shape, list);
-            return 0;
-        }
-        return 13;
+    if !chunks_match(meta, n, list, chunks) {
+        return Err(Refusal::OtherPage);
     }
-    11
+    if !chunks_valid(meta, n, c, shape, chunks) {
+        return Err(Refusal::BookWord);
+    }
+    take_blocks(meta, n, shape, list);
+    Ok(())
 }
 
 // Each number over the whole list, from 13 for a mark on.
-fn take_tested(meta: &mut [u32], n: u32, c: u32, shape: Shape, list: &[u64], chunks: &[u64]) -> u32
+fn take_tested(
+    meta: &mut [u32],
+    n: u32,
+    c: u32,
+    shape: Shape,
+    list: &[u64],
+    chunks: &[u64],
+) -> Result<(), Refusal>
     requires { ListedPre n meta.old c shape list.now chunks.now }
-    ensures { TakenBy result meta.new (test_fault n meta.old c shape list.now chunks.now) meta.old shape list.now }
+    ensures { TakenBy (code_of result) meta.new (test_fault n meta.old c shape list.now chunks.now) meta.old shape list.now }
 {
-    let fault = out_fault(meta, n, c, shape, list);
-    if fault != 0 {
-        return fault;
-    }
+    out_fault(meta, n, c, shape, list)?;
     pass_chunks(meta, n, c, shape, list, chunks)
 }
 
 // The same, at once where that goes.
-fn take_listed(meta: &mut [u32], n: u32, c: u32, shape: Shape, list: &[u64], chunks: &[u64]) -> u32
+fn take_listed(
+    meta: &mut [u32],
+    n: u32,
+    c: u32,
+    shape: Shape,
+    list: &[u64],
+    chunks: &[u64],
+) -> Result<(), Refusal>
     requires { ListedPre n meta.old c shape list.now chunks.now }
-    ensures { TakenBy result meta.new (test_fault n meta.old c shape list.now chunks.now) meta.old shape list.now }
+    ensures { TakenBy (code_of result) meta.new (test_fault n meta.old c shape list.now chunks.now) meta.old shape list.now }
 {
     if try_take(meta, n, c, shape, list, chunks) {
-        return 0;
+        return Ok(());
     }
     take_tested(meta, n, c, shape, list, chunks)
 }
@@ -79,16 +99,13 @@ fn test_chunks(
     list: &[u64],
     chunks: &[u64],
     fates: &mut [u32],
-) -> u32
+) -> Result<(), Refusal>
     requires { TestPre n meta.old c shape list.now chunks.now fates.old }
-    ensures { ChunksAnswered result meta.new fates.new (release_chunks n meta.old c shape host list.now chunks.now fates.old) }
+    ensures { ChunksAnswered (code_of result) meta.new fates.new (release_chunks n meta.old c shape host list.now chunks.now fates.old) }
 {
-    let fault = take_listed(meta, n, c, shape, list, chunks);
-    if fault != 0 {
-        return fault;
-    }
+    take_listed(meta, n, c, shape, list, chunks)?;
     settle_chunks(meta, n, c, shape, host, list, chunks, fates);
-    0
+    Ok(())
 }
 
 // Numbers 7, 8 and 9, and those after them.
@@ -101,27 +118,18 @@ pub fn release_chunks(
     list: &[u64],
     chunks: &[u64],
     fates: &mut [u32],
-) -> u32
+) -> Result<(), Refusal>
     requires { CallPre n meta.old c shape }
-    ensures { ChunksAnswered result meta.new fates.new (release_chunks n meta.old c shape host list.now chunks.now fates.old) }
+    ensures { ChunksAnswered (code_of result) meta.new fates.new (release_chunks n meta.old c shape host list.now chunks.now fates.old) }
 {
-    if list.len() == 0 {
-        return 7;
+    if list.is_empty() || chunks.is_empty() {
+        return Err(Refusal::EmptyList);
     }
-    if chunks.len() == 0 {
-        return 7;
+    if chunks.len() > MAX_CHUNKS || fates.len() < chunks.len() {
+        return Err(Refusal::Chunks);
     }
-    if chunks.len() > MAX_CHUNKS {
-        return 8;
+    if !all_of_kind(list, shape.kind) || !all_of_kind(chunks, Word::CHUNK) {
+        return Err(Refusal::WrongKind);
     }
-    if fates.len() < chunks.len() {
-        return 8;
-    }
-    if all_of_kind(list, shape.kind) {
-        if all_of_kind(chunks, Word::CHUNK) {
-            return test_chunks(meta, n, c, shape, host, list, chunks, fates);
-        }
-        return 9;
-    }
-    9
+    test_chunks(meta, n, c, shape, host, list, chunks, fates)
 }

@@ -16,10 +16,7 @@ fn page_clean(meta: &[u32], n: u32, c: u32, shape: Shape, m: u32, chunk: u64) ->
     ensures { result ≡ page_clean n meta.now c shape m chunk }
 {
     let q = chunk_page(chunk);
-    if lists::whole(meta, n, c, shape, q) {
-        return no_marks(meta, q, m);
-    }
-    false
+    lists::whole(meta, n, c, shape, q) && no_marks(meta, q, m)
 }
 
 pub fn pages_clean(meta: &[u32], n: u32, c: u32, shape: Shape, m: u32, chunks: &[u64]) -> bool
@@ -27,18 +24,13 @@ pub fn pages_clean(meta: &[u32], n: u32, c: u32, shape: Shape, m: u32, chunks: &
     requires chunks_value { every (is_page n) chunks.now ≡ true }
     ensures { result ≡ every (page_clean n meta.now c shape m) chunks.now }
 {
-    let mut i = 0;
-    while i < chunks.len() {
-        if page_clean(meta, n, c, shape, m, chunks[i]) {
-            i += 1;
-        } else {
-            return false;
-        }
-    }
-    true
+    chunks
+        .iter()
+        .all(|chunk| page_clean(meta, n, c, shape, m, *chunk))
 }
 
-// The listed words are marked, up to the first that is not out on its page or is marked: its place. Neighbours on one page go together.
+// The listed words are marked, up to the first that is not out on its page or is marked: its place. Neighbours on one page go together,
+// so that the place moves by many words at a time.
 pub fn mark_words(meta: &mut [u32], n: u32, shape: Shape, list: &[u64]) -> usize
     requires { OwnPre n meta.old shape list.now }
     ensures { OwnMarked result meta.new meta.old shape list.now }
@@ -59,21 +51,17 @@ pub fn take_pages(meta: &mut [u32], n: u32, m: u32, chunks: &[u64])
     requires { SweepPre n meta.old m chunks.now }
     ensures { meta.new ≡ take_pages meta.old m chunks.now }
 {
-    let mut i = 0;
-    while i < chunks.len() {
-        take_marks(meta, chunk_page(chunks[i]), m);
-        i += 1;
+    for chunk in chunks {
+        take_marks(meta, chunk_page(*chunk), m);
     }
 }
 
-// The marks become 0.
+// The marks become 0. One loop for both, with the step as a closure, would say what each call asks and leaves: longer than the two.
 pub fn clear_pages(meta: &mut [u32], n: u32, m: u32, chunks: &[u64])
     requires { SweepPre n meta.old m chunks.now }
     ensures { meta.new ≡ clear_pages meta.old m chunks.now }
 {
-    let mut i = 0;
-    while i < chunks.len() {
-        clear_marks(meta, chunk_page(chunks[i]), m);
-        i += 1;
+    for chunk in chunks {
+        clear_marks(meta, chunk_page(*chunk), m);
     }
 }

@@ -1,5 +1,6 @@
 // The test over both lists, with room for what stood in TALLY and for the counts.
 ghost use Rattle.std.specs.Prelude.{◌≤◌, length};
+ghost use Rattle.model.specs.Chunks.{chunks_max};
 ghost use Rattle.chunks.specs.way.Match.{MatchPre, Matched};
 ghost use Rattle.chunks.specs.way.TallyPre.{RoomPre};
 
@@ -24,32 +25,24 @@ fn match_with(
     requires room_pre { RoomPre chunks.now saved.old counts.old }
     ensures { Matched result meta.new n meta.old list.now chunks.now }
 {
-    if all_pages(n, chunks) {
-        name_chunks(meta, chunks, saved);
-        let r = tallies_agree(meta, n, list, chunks, counts);
-        unname_chunks(meta, chunks, saved);
-        r
-    } else {
-        false
+    if !all_pages(n, chunks) {
+        return false;
     }
+    name_chunks(meta, chunks, saved);
+    let agree = tallies_agree(meta, n, list, chunks, counts);
+    unname_chunks(meta, chunks, saved);
+    agree
 }
 
-fn match_few(meta: &mut [u32], n: u32, list: &[u64], chunks: &[u64]) -> bool
+// With room for N chunks. Two arrays and not one of structs: a chunk would take 16 bytes for 12, and each call clears them all.
+fn match_in<const N: usize>(meta: &mut [u32], n: u32, list: &[u64], chunks: &[u64]) -> bool
     requires cases { MatchPre n meta.old chunks.now }
-    requires chunks_len_bound { length chunks.now ≤ 32 }
+    requires chunks_len_bound { length chunks.now ≤ N }
+    requires small { N ≤ chunks_max }
     ensures { Matched result meta.new n meta.old list.now chunks.now }
 {
-    let mut saved: [u32; FEW_CHUNKS] = [0; FEW_CHUNKS];
-    let mut counts: [usize; FEW_CHUNKS] = [0; FEW_CHUNKS];
-    match_with(meta, n, list, chunks, &mut saved, &mut counts)
-}
-
-fn match_many(meta: &mut [u32], n: u32, list: &[u64], chunks: &[u64]) -> bool
-    requires { MatchPre n meta.old chunks.now }
-    ensures { Matched result meta.new n meta.old list.now chunks.now }
-{
-    let mut saved: [u32; MAX_CHUNKS] = [0; MAX_CHUNKS];
-    let mut counts: [usize; MAX_CHUNKS] = [0; MAX_CHUNKS];
+    let mut saved = [0u32; N];
+    let mut counts = [0usize; N];
     match_with(meta, n, list, chunks, &mut saved, &mut counts)
 }
 
@@ -58,8 +51,8 @@ pub fn chunks_match(meta: &mut [u32], n: u32, list: &[u64], chunks: &[u64]) -> b
     ensures { Matched result meta.new n meta.old list.now chunks.now }
 {
     if chunks.len() <= FEW_CHUNKS {
-        match_few(meta, n, list, chunks)
+        match_in::<FEW_CHUNKS>(meta, n, list, chunks)
     } else {
-        match_many(meta, n, list, chunks)
+        match_in::<MAX_CHUNKS>(meta, n, list, chunks)
     }
 }

@@ -7,16 +7,17 @@ ghost use Rattle.chunks.specs.way.Pass.{place_at};
 ghost use Rattle.chunks.specs.way.PlacePre.{PlacePre, Placed};
 
 use classes::Shape;
+use fields::page::PageField;
 use pages::chunk_page;
-use release::{KEPT_FATE, RETIRED, park_empty_page, relist};
+use release::{Fate, park_empty_page, relist};
 
 // A retired page is carved anew when it is used again.
 fn retire(meta: &mut [u32], q: u32)
     requires { PagePre meta.old q }
     ensures { meta.new ≡ emptied meta.old q }
 {
-    fields::page::set_carved(meta, q, 0);
-    fields::page::set_free(meta, q, 0);
+    PageField::Carved.set(meta, q, 0);
+    PageField::Free.set(meta, q, 0);
 }
 
 // A page with none out is retired and parked, which its fate tells; one with some out is a partial page.
@@ -24,13 +25,13 @@ pub fn place_chunk(meta: &mut [u32], c: u32, shape: Shape, host: u32, q: u32) ->
     requires { ParkingPre meta.old c shape q }
     ensures { Parked result meta.new (place_at meta.old c shape host q) }
 {
-    fields::page::set_virgin(meta, q, 0);
-    if fields::page::carved(meta, q) == fields::page::free(meta, q) {
+    PageField::Virgin.set(meta, q, 0);
+    if PageField::Carved.get(meta, q) == PageField::Free.get(meta, q) {
         retire(meta, q);
-        return RETIRED + park_empty_page(meta, c, shape, host, q);
+        return park_empty_page(meta, c, shape, host, q).retired();
     }
     relist(meta, c, q);
-    KEPT_FATE
+    Fate::Kept.number()
 }
 
 // The chunks' pages in their order; each one's fate stands at its chunk's place.
@@ -45,9 +46,7 @@ pub fn place_chunks(
     requires { PlacePre meta.old c shape chunks.now fates.old }
     ensures { Placed meta.new fates.new meta.old c shape host chunks.now fates.old }
 {
-    let mut i = 0;
-    while i < chunks.len() {
-        fates[i] = place_chunk(meta, c, shape, host, chunk_page(chunks[i]));
-        i += 1;
+    for (i, chunk) in chunks.iter().enumerate() {
+        fates[i] = place_chunk(meta, c, shape, host, chunk_page(*chunk));
     }
 }

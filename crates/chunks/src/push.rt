@@ -8,6 +8,7 @@ ghost use Rattle.chunks.specs.way.PushPre.{own_block, on_page, in_reach, PushAll
 ghost use Rattle.chunks.specs.way.CallPre.{BitsPre};
 
 use classes::Shape;
+use fields::page::PageField;
 use lists::{index_of, push_entries};
 use pages::page_within;
 
@@ -24,10 +25,8 @@ pub fn take_blocks(meta: &mut [u32], n: u32, shape: Shape, list: &[u64])
     requires { BitsPre n meta.old shape list.now }
     ensures { meta.new ≡ cleared meta.old shape list.now }
 {
-    let mut i = 0;
-    while i < list.len() {
-        take_block(meta, n, shape, list[i]);
-        i += 1;
+    for w in list {
+        take_block(meta, n, shape, *w);
     }
 }
 
@@ -44,15 +43,12 @@ fn tail_on(list: &[u64], q: u32) -> usize
     requires { every in_reach list.now ≡ true }
     ensures { TailOn result q list.now }
 {
-    let mut i = list.len();
-    while i != 0 {
-        if on_page(list, i - 1, q) {
-            i -= 1;
-        } else {
-            return i;
+    for i in (0..list.len()).rev() {
+        if !on_page(list, i, q) {
+            return i + 1;
         }
     }
-    i
+    0
 }
 
 // The blocks of one page, with FREE written once: one by one, each push would wait for the one before.
@@ -60,9 +56,9 @@ fn push_tail(meta: &mut [u32], shape: Shape, q: u32, list: &[u64])
     requires { TailPre meta.old shape q list.now }
     ensures { meta.new ≡ push_all meta.old shape list.now }
 {
-    let top = fields::page::free(meta, q);
+    let top = PageField::Free.get(meta, q);
     push_entries(meta, shape, q, top, list);
-    fields::page::set_free(meta, q, top + list.len() as u32);
+    PageField::Free.set(meta, q, top + list.len() as u32);
 }
 
 // One block: pushed as a list of one it would take a tenth longer where the blocks of many pages are mixed.
@@ -70,9 +66,9 @@ fn push_block(meta: &mut [u32], shape: Shape, q: u32, w: u64)
     requires { TailPre meta.old shape q (w ∷ []) }
     ensures { meta.new ≡ push_all meta.old shape (w ∷ []) }
 {
-    let top = fields::page::free(meta, q);
+    let top = PageField::Free.get(meta, q);
     fields::slot::set_entry(meta, q, top, index_of(shape, q, w));
-    fields::page::set_free(meta, q, top + 1);
+    PageField::Free.set(meta, q, top + 1);
 }
 
 // The list's last word, and those on its page before it: how many are left.
@@ -91,7 +87,7 @@ fn push_last(meta: &mut [u32], shape: Shape, list: &[u64]) -> usize
     k
 }
 
-// The list's last block first, so that of a page's blocks the list's first is on top.
+// The list's last block first, so that of a page's blocks the list's first is on top. No `for`: the place moves by a page's blocks at a time.
 pub fn push_blocks(meta: &mut [u32], shape: Shape, list: &[u64])
     requires push_all_pre { PushAllPre meta.old shape list.now }
     requires list_value { every (own_block shape) list.now ≡ true }

@@ -21,16 +21,13 @@ fn mark_and_take(
     ensures { Tried result meta.new n meta.old c shape list.now chunks.now }
 {
     let count = mark_words(meta, n, shape, list);
-    if count != list.len() {
-        clear_pages(meta, n, m, chunks);
-        return false;
-    }
-    if chunks_valid(meta, n, c, shape, chunks) {
+    let passed = count == list.len() && chunks_valid(meta, n, c, shape, chunks);
+    if passed {
         take_pages(meta, n, m, chunks);
-        return true;
+    } else {
+        clear_pages(meta, n, m, chunks);
     }
-    clear_pages(meta, n, m, chunks);
-    false
+    passed
 }
 
 // The chunks are to be the list's, and each one's page a run of the class with no mark set.
@@ -45,11 +42,9 @@ pub fn try_take(
     requires { TryPre n meta.old c shape chunks.now }
     ensures { Tried result meta.new n meta.old c shape list.now chunks.now }
 {
-    if chunks_match(meta, n, list, chunks) {
-        let m = marks_of(shape);
-        if pages_clean(meta, n, c, shape, m, chunks) {
-            return mark_and_take(meta, n, c, shape, m, list, chunks);
-        }
+    if !chunks_match(meta, n, list, chunks) {
+        return false;
     }
-    false
+    let m = marks_of(shape);
+    pages_clean(meta, n, c, shape, m, chunks) && mark_and_take(meta, n, c, shape, m, list, chunks)
 }

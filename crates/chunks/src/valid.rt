@@ -8,6 +8,8 @@ ghost use Rattle.chunks.specs.way.GivePre.{gives_valid};
 ghost use Rattle.chunks.specs.way.ValidPre.{chunk_valid, with_destination, counted, PagesPre, ReturnsPre, WithDestinationPre, CountPre, RunsPre, PagesGivenPre, ChunksValidPre};
 
 use classes::Shape;
+use fields::class::ClassField;
+use fields::page::PageField;
 use model::Destination;
 use pages::chunk_page;
 use rules::Limits;
@@ -34,15 +36,7 @@ fn pages_valid(meta: &[u32], n: u32, shape: Shape, chunks: &[u64]) -> bool
     requires { PagesPre n meta.now chunks.now }
     ensures { result ≡ every (chunk_valid meta.now shape) chunks.now }
 {
-    let mut i = 0;
-    while i < chunks.len() {
-        if chunk_valid(meta, shape, chunks[i]) {
-            i += 1;
-        } else {
-            return false;
-        }
-    }
-    true
+    chunks.iter().all(|chunk| chunk_valid(meta, shape, *chunk))
 }
 
 // The chunk returns all blocks that its page has out.
@@ -51,22 +45,23 @@ fn returns_all(meta: &[u32], chunk: u64) -> bool
     ensures { result ≡ returns_all meta.now chunk }
 {
     let q = chunk_page(chunk);
-    let out = fields::page::carved(meta, q) - fields::page::free(meta, q);
+    let out = PageField::Carved.get(meta, q) - PageField::Free.get(meta, q);
     out == Word::of(chunk).count()
 }
 
-// One page more at a destination.
-fn count_destination(s: Stores, destination: Destination) -> Stores
-    requires { WithDestinationPre s }
-    ensures { result ≡ with_destination s destination }
-{
-    let mut counts = s;
-    match destination {
-        Destination::ToEmpty => counts.empties += 1,
-        Destination::ToCold => counts.colds += 1,
-        Destination::ToArena => counts.runs += 1,
+impl Stores {
+    // One page more at a destination.
+    fn with(mut self, destination: Destination) -> Stores
+        requires { WithDestinationPre self }
+        ensures { result ≡ with_destination self destination }
+    {
+        match destination {
+            Destination::ToEmpty => self.empties += 1,
+            Destination::ToCold => self.colds += 1,
+            Destination::ToArena => self.runs += 1,
+        }
+        self
     }
-    counts
 }
 
 fn count_chunk(meta: &[u32], shape: Shape, limits: Limits, chunk: u64, s: Stores) -> Stores
@@ -74,10 +69,7 @@ fn count_chunk(meta: &[u32], shape: Shape, limits: Limits, chunk: u64, s: Stores
     ensures { result ≡ counted meta.now shape limits chunk s }
 {
     if returns_all(meta, chunk) {
-        return count_destination(
-            s,
-            release::destination_of(shape, limits, s.empties, s.colds),
-        );
+        return s.with(release::destination_of(shape, limits, s.empties, s.colds));
     }
     s
 }
@@ -100,10 +92,8 @@ fn runs_given(
         colds,
         runs: 0,
     };
-    let mut i = 0;
-    while i < chunks.len() {
-        s = count_chunk(meta, shape, limits, chunks[i], s);
-        i += 1;
+    for chunk in chunks {
+        s = count_chunk(meta, shape, limits, *chunk, s);
     }
     s.runs
 }
@@ -113,27 +103,19 @@ fn gives_valid(meta: &[u32], n: u32, c: u32, shape: Shape, chunks: &[u64]) -> bo
     requires { PagesGivenPre n meta.now c shape chunks.now }
     ensures { result ≡ gives_valid n meta.now (pages_given meta.now c shape chunks.now) }
 {
-    let empties = fields::class::empty_count(meta, c);
-    let colds = fields::class::cold_count(meta, c);
+    let empties = ClassField::EmptyCount.get(meta, c);
+    let colds = ClassField::ColdCount.get(meta, c);
     let limits = release::limits_at(meta, c);
     let given = runs_given(meta, n, shape, limits, chunks, empties, colds) * shape.pages;
-    if given == 0 {
-        return true;
-    }
-    runs::give::give_valid(meta, n, given)
+    given == 0 || runs::give::give_valid(meta, n, given)
 }
 
 pub fn chunks_valid(meta: &[u32], n: u32, c: u32, shape: Shape, chunks: &[u64]) -> bool
     requires { ChunksValidPre n meta.now c shape chunks.now }
     ensures { result ≡ chunks_valid n meta.now c shape chunks.now }
 {
-    if !fields::fault::head_valid(meta, n) {
-        return false;
-    }
-    if pages_valid(meta, n, shape, chunks) {
-        if release::row_valid(meta, c) {
-            return gives_valid(meta, n, c, shape, chunks);
-        }
-    }
-    false
+    fields::fault::head_valid(meta, n)
+        && pages_valid(meta, n, shape, chunks)
+        && release::row_valid(meta, c)
+        && gives_valid(meta, n, c, shape, chunks)
 }

@@ -3,6 +3,8 @@ use Rattle.facts.proofs.Prelude.{ℕ, zero, suc, ◌+◌, ◌-◌, ◌*◌, ◌/
 use Rattle.facts.proofs.Prelude.{[], ◌∷◌, ◌≡◌, refl, sym, ap, ◌∙◌, leb, ltb, get_or, leb-true, leb-false, le-leb, lt-leb, ltb-true, lt-ltb, le-ltb, and_left, and_right}
 use mathlib.Core.Logic.{by_cases}
 use native.Mathlib.Decide.{dec_le}
+use mir.Val.{bool_byte, Fits}
+use mir.Syntax.{w32}
 use Rattle.classes.specs.Sizes.{small_sizes, medium_sizes, max_small_size, max_medium_size}
 use Rattle.classes.specs.Lookup.{first_fit}
 use Rattle.classes.specs.Shape.{class_count}
@@ -115,7 +117,23 @@ module _ (size step id : ℕ) (e : step ≡ step_of size) (t : entered step id �
   pub class_low : size ≤ max_medium_size → id < class_count
   class_low h = by_cases (dec_le size max_small_size) (λ s. omega (arith, small-within s)) (λ n. omega (arith, (medium-within (omega arith) h).0, (medium-within (omega arith) h).1))
 
-  module _ (bytes r : ℕ) (b : bytes ≡ block_bytes id) (f : r ≡ cond (leb size bytes) id (id + 1)) where
+  module _ (bytes past : ℕ) (b : bytes ≡ block_bytes id) (p : past ≡ bool_byte (ltb bytes size)) where
+    -- the class near, or the next
+    abbrev r : ℕ
+    r = id + past
+
+    f : r ≡ cond (leb size bytes) id (id + 1)
+    f =
+        by_cases (dec_le size bytes)
+        (λ h. rw (p, le-leb size bytes h, le-ltb bytes size h) (omega arith))
+        (λ n. let h : bytes < size = omega arith in rw (p, lt-leb size bytes h, lt-ltb bytes size h))
+
+    pub class-fits : size ≤ max_medium_size → Fits w32 r
+    class-fits m =
+        by_cases (dec_le size bytes)
+        (λ h. record { fits = omega (arith, class_low m, rw (le-leb size bytes h) at f) })
+        (λ n. record { fits = omega (arith, class_low m, rw (lt-leb size bytes (omega arith)) at f) })
+
     small-fit : size ≤ max_small_size → r ≡ first_fit size small_sizes
     unfolding small_sizes
     small-fit h =

@@ -1,8 +1,7 @@
 -- Sizes of equally many granules have the same class: the lookup tables need an entry for every 16th size only.
-use Rattle.facts.proofs.Prelude.{ℕ, ◌+◌, ◌/◌, ◌%◌, arith, Bool, true, false, List, [], ◌∷◌, ◌≡◌, refl, leb, eqb, leb-true, leb-false, eqb-true, and_left, and_right}
+use Rattle.facts.proofs.Prelude.{ℕ, ◌+◌, ◌/◌, ◌%◌, arith, Bool, true, false, List, [], ◌∷◌, ◌≡◌, refl, leb, eqb, leb-true, leb-false, eqb-true, and_left, and_right, every}
 use Rattle.classes.specs.Sizes.{small_sizes, medium_sizes}
 use Rattle.classes.specs.Lookup.{first_fit}
-use Rattle.classes.proofs.Table.{every}
 
 -- granules of a size, rounded up
 abbrev pub granules : ℕ → ℕ

@@ -1,8 +1,6 @@
 -- Every class's shape is sound: one computed test over each of the two size tables.
-use Rattle.facts.proofs.Prelude.{ℕ, ◌+◌, ◌-◌, ◌*◌, ◌/◌, ◌^◌, ◌≤◌, ◌<◌, arith, div-le_self, Bool, true, false, cond, ◌&&◌}
+use Rattle.facts.proofs.Prelude.{ℕ, ◌+◌, ◌-◌, ◌*◌, ◌/◌, ◌≤◌, ◌<◌, arith, Bool, true, false, cond, ◌&&◌}
 use Rattle.facts.proofs.Prelude.{◌≡◌, refl, sym, ◌∙◌, ap, leb, ltb, eqb, get_or, leb-true, eqb-true, lt-ltb, le-ltb, and_left, and_right}
-use mir.Val.{Fits}
-use mir.Syntax.{w64}
 use Rattle.classes.specs.declared.Shape.{Shape}
 use Rattle.classes.specs.Sizes.{small_sizes, medium_sizes, page_bytes, small_capacity, span_pages, span_capacity}
 use Rattle.classes.specs.Shape.{inverse, small_of, medium_of, small_shape, medium_shape, class_count, pool_id, number_of, named_shape, shape_of}
@@ -112,11 +110,3 @@ shape-named k low = rw low
 
 pub shape-alike : (k : ℕ) → ltb k class_count ≡ true → shape_of (pool_id k) ≡ shape_of k
 shape-alike k low = shape-pool k ∙ sym (shape-named k low)
-
--- the inverse, as the code makes it
-module _ (d : ℕ) where
-  pub part-fits : Fits w64 ((2 ^ 32 - 1) / d)
-  part-fits = record { fits = omega (arith, div-le_self (2 ^ 32 - 1) d) }
-
-  pub inverse-fits : Fits w64 ((2 ^ 32 - 1) / d + 1)
-  inverse-fits = record { fits = omega (arith, div-le_self (2 ^ 32 - 1) d) }

@@ -1,14 +1,9 @@
 -- A rule of a table, proved at all of its entries by one test that antt computes, one entry after the other.
 use Rattle.facts.proofs.Prelude.{ℕ, zero, suc, ◌+◌, ◌*◌, ◌≤◌, ◌<◌, arith, add-zero, mul-zero, le_of_suc-le-suc, not-suc-le-zero, Bool}
-use Rattle.facts.proofs.Prelude.{true, ◌&&◌, List, [], ◌∷◌, ◌≡◌, refl, eqb, length, get_or, drop, eqb-true, eq-eqb, and_left, and_right}
+use Rattle.facts.proofs.Prelude.{true, List, [], ◌∷◌, ◌≡◌, refl, eqb, length, get_or, drop, eqb-true, eq-eqb, and_left, and_right, every}
 use Rattle.classes.specs.Lookup.{obeys}
 
--- a test passes at every entry
-abbrev pub every : (ℕ → Bool) → List ℕ → Bool
-every t [] = true
-every t (x ∷ xs) = t x && every t xs
-
--- so it passes at any place, if it passes at what stands past the end
+-- what passes at every entry passes at any place, if it passes at what stands past the end
 pub every-at : (t : ℕ → Bool) (xs : List ℕ) (d k : ℕ) → every t xs ≡ true → t d ≡ true → t (get_or xs k d) ≡ true
 every-at t [] d k h e = e
 every-at t (x ∷ xs) d zero h e = and_left (t x) (every t xs) h

@@ -2,25 +2,23 @@
 #![tactic(auto)]
 
 mod class_lut;
-mod in_tables;
 mod lookup;
+mod lookup_tables;
 mod medium_lut;
 mod near;
 mod runs;
 mod sizes;
 
-pub use class_lut::small_classes;
-pub use in_tables::class_in;
 pub use lookup::size_class;
-pub use medium_lut::medium_classes;
+pub use lookup_tables::LookupTables;
 pub use runs::{number_of, pool_id, shape_of};
 pub use sizes::{
-    CLASS_COUNT, CLASS_ROWS, NUM_CLASSES, NUM_MEDIUM, block_bytes, medium_capacity_for,
-    span_pages_for,
+    CLASS_COUNT, CLASS_ROWS, MAX_MEDIUM_SIZE, NUM_CLASSES, NUM_MEDIUM, block_bytes,
+    medium_capacity_for, span_pages_for,
 };
 
 // The class of a size (document 02, A.6).
-#[derive(Clone, Copy)]
+#[derive(Clone, Copy, PartialEq, Eq)]
 pub enum Sized {
     Small(u32),
     Medium(u32),

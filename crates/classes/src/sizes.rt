@@ -3,6 +3,11 @@ ghost use Rattle.std.specs.Prelude.{◌≡◌, ◌<◌, ◌≤◌};
 ghost use Rattle.classes.specs.Sizes.{page_bytes, small_capacity, span_pages, span_capacity};
 ghost use Rattle.classes.specs.way.Near.{entry_in, block_bytes};
 
+// The largest size with a small class of its own, with a medium one.
+pub const MAX_SMALL_SIZE: u32 = 16384;
+
+pub const MAX_MEDIUM_SIZE: u32 = 65472;
+
 const PAGE_SIZE: u32 = 65536;
 
 // Bytes before the first block of a small page, and of a span.
@@ -33,12 +38,6 @@ const CLASSES: [u16; 64] = [
 const MEDIUM_CLASSES: [u16; 12] = [
     18432, 20736, 23328, 26256, 29552, 33248, 37408, 42096, 47360, 53280, 59952, 65472,
 ];
-
-fn wide(size: u16) -> u32
-    ensures { result ≡ size }
-{
-    size as u32
-}
 
 // A class's entry, by its id; past the last class it is the last one's. The places are constants, so that the back end has the arrays in a read-only
 // table; read at a place that is computed they would be built anew on the stack each time (docs/BACKEND.md).
@@ -129,7 +128,7 @@ fn entry(small: &[u16; 64], medium: &[u16; 12], id: u32) -> u16
 pub fn block_bytes(id: u32) -> u32
     ensures { result ≡ block_bytes id }
 {
-    wide(entry(&CLASSES, &MEDIUM_CLASSES, id))
+    u32::from(entry(&CLASSES, &MEDIUM_CLASSES, id))
 }
 
 // Blocks of a small page.

@@ -28,8 +28,7 @@ use Rattle.calls.specs.Release as Back
 use Rattle.calls.specs.Out.{start_of, out_at, unmarked, repeats, out_fault}
 use Rattle.calls.specs.Release.{released_none, first_of, give_back_at, last_step, release_valid, release_blocks}
 use Rattle.calls.specs.Chunks.{ChunksReleased, chunks_none, chunks_valid, release_chunks}
-use Rattle.direct.specs.declared.Report.{Report}
-use Rattle.direct.specs.Answer.{report_of}
+use Rattle.direct.specs.Answer.{Report, report_of}
 use Rattle.vigbuso.specs.Faults.{call_fault, class_fault}
 use Rattle.vigbuso.specs.Direct as Direct
 use Rattle.vigbuso.specs.Direct.{open_fault, open_on, commit_on, grow_on, report_on, report_code, figures_out}

@@ -28,9 +28,7 @@ use Rattle.arena.specs.Calls as Arena
 use Rattle.arena.specs.Calls.{report_code}
 use Rattle.arena.specs.Valid.{report_valid}
 use Rattle.pages.specs.Stack.{page_at}
-use Rattle.direct.specs.declared.Report.{Report}
-use Rattle.direct.specs.declared.Report.TheVariants.{Reported}
-use Rattle.direct.specs.Answer.{report_of}
+use Rattle.direct.specs.Answer.{Report, Reported, report_of}
 use Rattle.calls.specs.Take.{Took}
 use Rattle.calls.specs.Release.{Released, release_blocks}
 use Rattle.refinement.specs.Direct.{Reply, direct_reply}

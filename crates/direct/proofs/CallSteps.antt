@@ -1,5 +1,6 @@
 -- The ways out of the direct calls, and what they ask of the steps.
 use Rattle.facts.proofs.Prelude.{ℕ, zero, suc, ◌+◌, ◌-◌, ◌*◌, ◌^◌, ◌≤◌, ◌<◌, arith, add-one, Bool, true, false, not, ◌||◌, List, Option}
+use Rattle.std.proofs.Common.{min}
 use Rattle.facts.proofs.Prelude.{none, some, ◌≡◌, refl, sym, ap, ◌∙◌, subst, eqb, leb, length, set, length-set, lt-ltb, le-leb, lt-leb}
 use Rattle.facts.proofs.Prelude.{leb-true, leb-false, eq-eqb, ne_eqb, not-true, not-false, is_some, by_cases, and_left, and_right, and_no}
 use mir.Val.{Fits}
@@ -15,10 +16,6 @@ use Rattle.fields.specs.Ranges.{format_valid}
 use Rattle.model.specs.Heap.{bad_run, bad_growth, direct}
 use Rattle.model.specs.Arena as Model
 use Rattle.runs.specs.declared.Arena.{Arena}
-use Rattle.runs.specs.declared.Commit.{Commit}
-use Rattle.runs.specs.declared.Commit.TheVariants.{Refused, Run, Nothing}
-use Rattle.direct.specs.declared.Grow.{Grow}
-use Rattle.direct.specs.declared.Grow.TheVariants.{Yes, No}
 use Rattle.arena.specs.Load.{status_of, load_arena}
 use Rattle.arena.specs.Owners.{owner_code}
 use Rattle.runs.specs.way.Record.{record_of}
@@ -27,17 +24,13 @@ use Rattle.arena.specs.Open.{cleared, head_words, limited, ruled}
 use Rattle.arena.specs.Calls.{commit_for, commit_call, given, held_direct, release_call, grow_call, contains_call}
 use Rattle.runs.specs.way.Act.{end_none, end_run, end_given, settle, from_frontier, grow_with, grow_acts, clamped}
 use Rattle.runs.specs.way.Pre.{GiveIn, BookIn, EndsIn}
-use Rattle.runs.specs.Answer.{answer_of, Answers}
-use Rattle.direct.specs.Answer.{grown_as, Releases}
+use Rattle.runs.specs.Answer.{Commit, Refused, answer_of, Answers}
+use Rattle.direct.specs.Answer.{Grow, grown_as, Releases}
 use Rattle.direct.specs.way.Acts.{grow_commit, Grew, Grows, valid_grow, held_release}
 use Rattle.runs.proofs.Acts.{valid_record, grow-acts}
 use Rattle.runs.proofs.PlanLaws.{clamp_commit, clamp_growth, clamp_grow, clamped-le}
 
 -- ---- numbers
-pub bad-none : (m : ℕ) → m ≡ 0 → true ≡ bad_run m
-unfolding bad_run
-bad-none m e = rw (eq-eqb m 0 e)
-
 pub bad-long : (m : ℕ) → (m ≡ 0 → ⊥) → leb (2 ^ 48) m ≡ bad_run m
 unfolding bad_run
 bad-long m d = rw (ne_eqb m 0 d)
@@ -46,23 +39,12 @@ or_true : (a : Bool) → (a || true) ≡ true
 or_true true = refl
 or_true false = refl
 
-module _ (old new : ℕ) where
-  pub bad-old : (t : Bool) → t ≡ bad_run old → t ≡ true → true ≡ bad_growth old new
-  bad-old t e v = rw (← e, v)
-
-  pub bad-new : (t : Bool) → t ≡ bad_run new → t ≡ true → true ≡ bad_growth old new
-  bad-new t e v = simp (← e, v, or_true)
-
-  pub bad-less : (t u : Bool) → t ≡ bad_run old → t ≡ false → u ≡ bad_run new → u ≡ false → leb new old ≡ bad_growth old new
-  bad-less t u e v f w = rw (← e, v, ← f, w)
-
-pub clamp_long : (m : ℕ) → max_pages < m → (max_pages + 1) ≡ clamped m
+pub clamp_is : (m r : ℕ) → r ≡ min m (max_pages + 1) → r ≡ clamped m
 unfolding clamped
-clamp_long m l = rw (lt-leb m max_pages l)
-
-pub clamp_is : (m : ℕ) → m ≤ max_pages → m ≡ clamped m
-unfolding clamped
-clamp_is m l = rw (le-leb m max_pages l)
+clamp_is m r e =
+    e ∙ by_cases (leb m max_pages)
+    (λ t. rw t (let l = leb-true m max_pages t in omega arith))
+    (λ t. rw t (let l = leb-false m max_pages t in omega arith))
 
 pub clamped-fits : (m r : ℕ) → r ≡ clamped m → r ≤ (max_pages + 1)
 clamped-fits m r e = rw e (clamped-le m)
@@ -155,15 +137,19 @@ module _ (n : ℕ) (b : List ℕ) (o k : ℕ) where
   unfolding contains_call Model.contains load_arena
   contains-off s e d = rw (← e, not-ready s d) (simp and_no)
 
-  pub contains-past : (s : ℕ) → s ≡ get b (arena state) → s ≡ 1 → n * 65536 < o → false ≡ contains_call n b o k
+  -- j is n, in 64 bits
+  pub contains-past : (s j : ℕ) → s ≡ get b (arena state) → s ≡ 1 → j ≡ n → j * 65536 < o → leb o (j * 65536) ≡ contains_call n b o k
   unfolding contains_call Model.contains load_arena
-  contains-past s e v l = rw (← e, v) (simp (lt-leb (o + k) (n * 65536) (omega arith), and_no))
+  contains-past s j e v i l =
+      let m : n * 65536 < o = rw i at l in
+      rw (lt-leb o (j * 65536) l, ← e, v) (simp (lt-leb (o + k) (n * 65536) (omega arith), and_no))
 
-  pub contains-is : (t : Bool) (s : ℕ) → t ≡ format_valid b → not t ≡ false → BookIn b n → s ≡ get b (arena state) → s ≡ 1 → o ≤ n * 65536 → leb k (n * 65536 - o) ≡ contains_call n b o k
+  pub contains-is : (t : Bool) (s j : ℕ) → t ≡ format_valid b → not t ≡ false → BookIn b n → s ≡ get b (arena state) → s ≡ 1 → j ≡ n → o ≤ j * 65536 → leb k (j * 65536 - o) ≡ contains_call n b o k
   unfolding contains_call Model.contains load_arena
-  contains-is t s g f r e v l =
+  contains-is t s j g f r e v i l' =
       let z = r.small in
-      rw (← g, not-false t f, ← e, v)
+      let l : o ≤ n * 65536 = rw i at l' in
+      rw (i, ← g, not-false t f, ← e, v)
       (by_cases (leb k (n * 65536 - o))
       (λ t. let y = leb-true k (n * 65536 - o) t in rw (t, lt-ltb (o + k) (2 ^ 64) (omega arith), le-leb (o + k) (n * 65536) (omega arith)))
       (λ t. let y = leb-false k (n * 65536 - o) t in rw t (simp (lt-leb (o + k) (n * 65536) (omega arith), and_no))))
@@ -251,20 +237,11 @@ module _ (n : ℕ) (b : List ℕ) (h e m : ℕ) where
             subst (λ x. EndsIn b x) (sym i) (growth-holes growth-told g (sym y ∙ z) (omega arith))
 
         module _ (d : ℕ) (c : Commit) (x : List ℕ) (g : d ≡ get b (arena held)) (k : Answers c x (grow_with n b a h e m (owner_code direct) d)) where
-          grows : Grows (grow_commit c) x (valid_grow n b h e m)
+          pub grows : (y : Grow) → y ≡ grow_commit c → Grows y x (valid_grow n b h e m)
           unfolding valid_grow grow_acts
-          grows =
+          grows y z =
               let o = grow_with n b a h e m (owner_code direct) d in
-              rw (growth-told, ← i, ← g) (record { answer = ap grow_commit k.answer ∙ grow_as o.code o.run o.fresh; book = k.book })
-
-          pub grows-refused : (r : ℕ) → c ≡ Refused r → Grows (Grow.Refused r) x (valid_grow n b h e m)
-          grows-refused r z = rw z at grows
-
-          pub grows-run : (q : ℕ) (y : Bool) → c ≡ Run q y → Grows Yes x (valid_grow n b h e m)
-          grows-run q y z = rw z at grows
-
-          pub grows_none : c ≡ Nothing → Grows No x (valid_grow n b h e m)
-          grows_none z = rw z at grows
+              rw (growth-told, ← i, ← g) (record { answer = z ∙ ap grow_commit k.answer ∙ grow_as o.code o.run o.fresh; book = k.book })
 
   grow-code : (grow_acts n b h e m (owner_code direct)).code ≡ 0
   unfolding grow_acts grow_with from_frontier end_none settle end_run end_given

@@ -1,6 +1,8 @@
 -- The steps of a report: number 13 on what it reads, the pages of the parked runs, the figures.
-use Rattle.facts.proofs.Prelude.{ℕ, ◌+◌, ◌-◌, ◌*◌, ◌^◌, ◌≤◌, ◌<◌, arith, mul-le-mul, add-one, Bool, true, false, not, ◌&&◌, List, ◌≡◌, refl, sym, ap}
-use Rattle.facts.proofs.Prelude.{◌∙◌, leb, le-leb, lt-leb, leb-true, not-true, not-false, every, total, below, and_left, and_right, below_last, every-at}
+use Rattle.facts.proofs.Prelude.{ℕ, ◌+◌, ◌-◌, ◌*◌, ◌^◌, ◌≤◌, ◌<◌, arith, mul-le-mul, add-one, Bool, true, false, not, List, ◌≡◌, refl, ap}
+use Rattle.facts.proofs.Prelude.{◌∙◌, leb, leb-true, not-true, not-false, total, below, and_left, and_right, every-at}
+use Rattle.std.specs.List.{list_all, range_with_len}
+use Rattle.facts.proofs.Ranges.{all-below}
 use Rattle.words.specs.Limits.{max_parked, class_rows}
 use Rattle.classes.specs.declared.Shape.{Shape}
 use Rattle.classes.specs.Shape.{shape_of}
@@ -9,45 +11,20 @@ use Rattle.fields.specs.Field.{arena, class, held, empty_count, cold_count, get}
 use Rattle.model.specs.declared.Figures.{Figures}
 use Rattle.model.specs.Heap.{parked_pages}
 use Rattle.runs.specs.declared.Arena.{Arena}
-use Rattle.direct.specs.declared.Report.TheVariants.{Reported, Refused}
 use Rattle.arena.specs.Load.{load_store, load_arena}
 use Rattle.arena.specs.Valid.{record_valid, counts_valid, all_counts_valid, report_valid}
 use Rattle.arena.specs.Calls.{parked_runs, figures}
 use Rattle.runs.specs.way.Record.{record_of}
 use Rattle.runs.proofs.Acts.{valid_record}
 use Rattle.runs.specs.way.Pre.{BookIn}
-use Rattle.direct.specs.Answer.{report_of}
+use Rattle.direct.specs.Answer.{Report, Reported, report_of}
 use Rattle.direct.specs.way.Pre.{CountsIn, parked_max, Parks}
 
 -- ---- number 13, class by class
-module _ (b : List ℕ) (c x : ℕ) (e : x ≡ get b (class empty_count c)) where
-  pub many-empty : max_parked < x → false ≡ counts_valid b c
-  many-empty h = rw (← e, lt-leb x max_parked h)
-
-  pub counts-told : (y : ℕ) → x ≤ max_parked → y ≡ get b (class cold_count c) → leb y max_parked ≡ counts_valid b c
-  counts-told y h k = rw (← e, ← k, le-leb x max_parked h)
-
 module _ (b : List ℕ) where
-  -- the classes below k decide it
-  pub record CountsInv (k : ℕ) : Type 0 where
-    pub within : k ≤ class_rows
-    pub rest : every (counts_valid b) (below k) ≡ all_counts_valid b
-
-  pub counts_start : CountsInv class_rows
+  pub all-counts : list_all (counts_valid b) (range_with_len 0 class_rows) ≡ all_counts_valid b
   unfolding all_counts_valid
-  counts_start = record { within = omega arith; rest = refl }
-
-  counts-last : (k : ℕ) (r : Bool) → (k ≡ 0 → ⊥) → r ≡ counts_valid b (k - 1) → every (counts_valid b) (below k) ≡ (r && every (counts_valid b) (below (k - 1)))
-  counts-last k r h e = rw (below_last k (omega (arith, h)), e)
-
-  pub counts-again : (k : ℕ) (r : Bool) → (k ≡ 0 → ⊥) → CountsInv k → r ≡ counts_valid b (k - 1) → not r ≡ false → CountsInv (k - 1)
-  counts-again k r h i e t = record { within = omega (arith, i.within); rest = sym (ap (λ z. z && every (counts_valid b) (below (k - 1))) (not-false r t)) ∙ sym (counts-last k r h e) ∙ i.rest }
-
-  pub counts_fail : (k : ℕ) (r : Bool) → (k ≡ 0 → ⊥) → CountsInv k → r ≡ counts_valid b (k - 1) → not r ≡ true → false ≡ all_counts_valid b
-  counts_fail k r h i e f = sym (ap (λ z. z && every (counts_valid b) (below (k - 1))) (not-true r f)) ∙ sym (counts-last k r h e) ∙ i.rest
-
-  pub counts-pass : (k : ℕ) → k ≡ 0 → CountsInv k → true ≡ all_counts_valid b
-  counts-pass k h i = rw h at i.rest
+  all-counts = all-below (counts_valid b) class_rows
 
   pub counts-at : (c : ℕ) → all_counts_valid b ≡ true → c < class_rows → counts_valid b c ≡ true
   unfolding all_counts_valid
@@ -117,12 +94,12 @@ module _ (n : ℕ) (b : List ℕ) where
 
   -- number 13
   module _ (t : Bool) (e : t ≡ record_valid n b) where
-    pub no_record : not t ≡ true → Refused 13 ≡ report_of n b
+    pub no_record : not t ≡ true → Report.Refused 13 ≡ report_of n b
     unfolding report_of report_valid
     no_record v = rw (← e, not-true t v)
 
     module _ (u : Bool) (v : not t ≡ false) (f : u ≡ all_counts_valid b) where
-      pub no-counts : u ≡ false → Refused 13 ≡ report_of n b
+      pub no-counts : u ≡ false → Report.Refused 13 ≡ report_of n b
       unfolding report_of report_valid
       no-counts w = rw (← e, not-false t v, ← f, w)
 

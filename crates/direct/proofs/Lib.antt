@@ -1,2 +1,3 @@
 mod CallSteps
 mod FigureSteps
+pub mod Told

@@ -1,15 +1,18 @@
--- The answers of the code, as document 01's numbers and values.
+-- The answers of the direct calls, as document 01's numbers and values.
+--     Grow               a growth: a refusal's number, yes or no
 --     Releases          a release answered r and left the book b, as the definition says
+--     Report             a report: a refusal's number, or the figures
 --     report_of          what a report answers
 use Rattle.std.specs.Prelude.{ℕ, zero, suc, List, Bool, true, false, cond, ◌≡◌}
-use Rattle.direct.specs.declared.Grow.{Grow}
-use Rattle.direct.specs.declared.Grow.TheVariants.{Yes, No}
-use Rattle.direct.specs.declared.Report.{Report}
-use Rattle.direct.specs.declared.Report.TheVariants.{Reported}
+use Rattle.model.specs.declared.Figures.{Figures}
 use Rattle.arena.specs.Valid.{report_valid}
 use Rattle.arena.specs.Calls.{Done, figures}
 
--- a growth: a refusal's number, yes or no
+pub data Grow : Type 0 where
+  Refused : ℕ → Grow
+  Yes : Grow
+  No : Grow
+
 abbrev pub grown_as : ℕ → Bool → Grow
 grown_as zero true = Yes
 grown_as zero false = No
@@ -25,6 +28,9 @@ pub record Releases (r : ℕ) (b : List ℕ) (o : Done) : Type 0 where
   pub code : r ≡ o.code
   pub book : b ≡ o.book
 
--- a report
+pub data Report : Type 0 where
+  Refused : ℕ → Report
+  Reported : Figures → Report
+
 unfoldable pub report_of : ℕ → List ℕ → Report
 report_of n b = cond (report_valid n b) (Reported (figures n b)) (Report.Refused 13)

@@ -6,36 +6,30 @@ ghost use Rattle.arena.specs.Calls.{parked_runs, figures};
 ghost use Rattle.runs.specs.way.Pre.{BookIn};
 ghost use Rattle.direct.specs.Answer.{report_of};
 ghost use Rattle.direct.specs.way.Pre.{RowIn, CountsIn, Parks};
+ghost use Rattle.direct.specs.way.Told.{told_report};
 
-use super::Report;
 use classes::CLASS_ROWS;
+use fields::arena::ArenaField;
+use fields::class::ClassField;
 use model::Figures;
 use runs::load;
 use words::limits::MAX_PARKED;
+use words::refusal::Refusal;
 
 // A class's counts of parked runs are in their range.
 fn counts_valid(meta: &[u32], c: u32) -> bool
     requires { RowIn meta.now c }
     ensures { result ≡ counts_valid meta.now c }
 {
-    if fields::class::empty_count(meta, c) > MAX_PARKED {
-        return false;
-    }
-    fields::class::cold_count(meta, c) <= MAX_PARKED
+    ClassField::EmptyCount.get(meta, c) <= MAX_PARKED
+        && ClassField::ColdCount.get(meta, c) <= MAX_PARKED
 }
 
 fn all_counts_valid(meta: &[u32]) -> bool
     requires { 40000 ≤ length meta.now }
     ensures { result ≡ all_counts_valid meta.now }
 {
-    let mut c = CLASS_ROWS;
-    while c != 0 {
-        c -= 1;
-        if !counts_valid(meta, c) {
-            return false;
-        }
-    }
-    true
+    (0..CLASS_ROWS).all(|c| counts_valid(meta, c))
 }
 
 // The pages of a class's parked runs: at most 256 empty and 256 cold ones of at most 8 pages.
@@ -43,7 +37,7 @@ fn parked_of(meta: &[u32], c: u32) -> u32
     requires { RowIn meta.now c × (counts_valid meta.now c ≡ true) }
     ensures { Parks meta.now c result }
 {
-    let runs = fields::class::empty_count(meta, c) + fields::class::cold_count(meta, c);
+    let runs = ClassField::EmptyCount.get(meta, c) + ClassField::ColdCount.get(meta, c);
     if runs == 0 {
         return 0;
     }
@@ -56,10 +50,8 @@ fn parked_pages(meta: &[u32]) -> u32
     ensures { result ≡ parked_pages (parked_runs meta.now) }
 {
     let mut sum = 0;
-    let mut c = 0;
-    while c < CLASS_ROWS {
+    for c in 0..CLASS_ROWS {
         sum += parked_of(meta, c);
-        c += 1;
     }
     sum
 }
@@ -69,26 +61,26 @@ fn figures(meta: &[u32], size: u32) -> Figures
     ensures { result ≡ figures size meta.now }
 {
     let a = load::load_record(meta);
-    let parked = parked_pages(meta) as u64;
+    let parked = u64::from(parked_pages(meta));
     Figures {
         commits: a.commits,
         reuses: a.reuses,
         abandoned: a.abandoned,
-        held: fields::arena::held(meta) as u64,
-        idle: (a.total as u64) + ((size - a.frontier) as u64) + parked,
+        held: u64::from(ArenaField::Held.get(meta)),
+        idle: u64::from(a.total) + u64::from(size - a.frontier) + parked,
         overlap: parked,
     }
 }
 
-pub fn report(meta: &[u32], size: u32) -> Report
+pub fn report(meta: &[u32], size: u32) -> Result<Figures, Refusal>
     requires { BookIn meta.now size }
-    ensures { result ≡ report_of size meta.now }
+    ensures { told_report result ≡ report_of size meta.now }
 {
     if !load::record_valid(meta, size) {
-        return Report::Refused(13);
+        return Err(Refusal::BookWord);
     }
     if all_counts_valid(meta) {
-        return Report::Reported(figures(meta, size));
+        return Ok(figures(meta, size));
     }
-    Report::Refused(13)
+    Err(Refusal::BookWord)
 }

@@ -5,16 +5,16 @@ ghost use Rattle.rules.specs.Rules.{rules_of};
 ghost use Rattle.arena.specs.Open.{cleared, head_words, limited, ruled, opened};
 
 use classes::{CLASS_COUNT, pool_id};
+use fields::arena::ArenaField;
+use fields::class::ClassField;
 use words::limits::BOOK_FORMAT;
 
 fn clear_head(meta: &mut [u32])
     requires { 40000 ≤ length meta.old }
     ensures { meta.new ≡ cleared meta.old head_words }
 {
-    let mut i = 0;
-    while i < 1376 {
+    for i in 0..1376 {
         meta[i] = 0;
-        i += 1;
     }
 }
 
@@ -25,8 +25,8 @@ fn set_limits(meta: &mut [u32], rows: &[u32], c: u32)
     ensures { meta.new ≡ limited meta.old c (rules_of rows.now c) }
 {
     let limits = rules::limits_of(rows, c);
-    fields::class::set_empty_limit(meta, c, limits.empty);
-    fields::class::set_cold_limit(meta, c, limits.cold);
+    ClassField::EmptyLimit.set(meta, c, limits.empty);
+    ClassField::ColdLimit.set(meta, c, limits.cold);
 }
 
 // The heap's classes, then the pool's: two loops, so that neither asks of a class whose it is.
@@ -34,15 +34,11 @@ fn set_rules(meta: &mut [u32], rows: &[u32])
     requires { 40000 ≤ length meta.old }
     ensures { meta.new ≡ ruled meta.old (rules_of rows.now) class_rows }
 {
-    let mut c = 0;
-    while c < CLASS_COUNT {
+    for c in 0..CLASS_COUNT {
         set_limits(meta, rows, c);
-        c += 1;
     }
-    let mut k = 0;
-    while k < CLASS_COUNT {
+    for k in 0..CLASS_COUNT {
         set_limits(meta, rows, pool_id(k));
-        k += 1;
     }
 }
 
@@ -51,7 +47,7 @@ pub fn open(meta: &mut [u32], pages: u32, rows: &[u32])
     ensures { meta.new ≡ opened pages (rules_of rows.now) meta.old }
 {
     clear_head(meta);
-    fields::arena::set_size(meta, pages);
-    fields::arena::set_format(meta, BOOK_FORMAT);
+    ArenaField::Size.set(meta, pages);
+    ArenaField::Format.set(meta, BOOK_FORMAT);
     set_rules(meta, rows);
 }

@@ -1,16 +1,13 @@
--- Bits of a word set at once, and two entries that are one word.
---     ones-set    by a mask
+-- Bits of a word set at once.
+--     ones_set    by a mask
 --     stretch     out bits of blocks that follow one another, in one word: all 0, or all 1 (bits_set)
---     struck      an out bit that is set, cleared
---     paired      the two entries of a word
-use Rattle.facts.proofs.Prelude.{ℕ, zero, suc, ◌+◌, ◌-◌, ◌*◌, ◌/◌, ◌%◌, ◌^◌, ◌≤◌, ◌<◌, arith, le_refl, one-mul, mod-one, mod-eq_of_lt}
-use Rattle.facts.proofs.Prelude.{div-one, List, ◌≡◌, refl, sym, ap, ◌∙◌, length, get_or, set, get_or-set_same, set-get_or, set-set}
+use Rattle.facts.proofs.Prelude.{ℕ, zero, suc, ◌+◌, ◌-◌, ◌*◌, ◌/◌, ◌%◌, ◌^◌, ◌≤◌, ◌<◌, arith, mod-one, mod-eq_of_lt}
+use Rattle.facts.proofs.Prelude.{List, ◌≡◌, refl, sym, ap, ◌∙◌, length, get_or, set, get_or-set_same, set-get_or, set-set}
 use lib.Bits.{bit_and, bit_or, or_add_and, and_high}
-use lib.Pow.{pow_pos, pow-add, pow_mono, ones_lt, high_ones, shl_exact, recompose}
-use Rattle.fields.specs.Field.{bits, place, out, slot, put}
+use lib.Pow.{pow_pos, pow-add, ones_lt, high_ones, shl_exact}
+use Rattle.fields.specs.Field.{bits, place, out, put}
 use Rattle.fields.specs.way.OutBits.{set_out_run, out_word, outs_at}
-use Rattle.fields.proofs.Parts.{below, read-le, read-place_other, place-next}
-use Rattle.fields.proofs.Shifts.{one_shl}
+use Rattle.fields.proofs.Parts.{read-le, place-next}
 
 -- ---- by a mask
 over : (o a w m r : ℕ) → o + a ≡ w + m → a ≡ r → r ≤ w → o ≡ w - r + m
@@ -24,19 +21,6 @@ ones_place w s n =
 
 pub ones_set : (w s n o : ℕ) → o ≡ 2 ^ n - 1 → s + n ≤ 32 → bit_or w (o * 2 ^ s % 2 ^ 32) ≡ place (bits s n) w (2 ^ n - 1)
 ones_set w s n o e h = rw e (ap (bit_or w) (shl_exact n s 32 (ones_lt n) (omega arith)) ∙ ones_place w s n)
-
--- the mask itself, in 64 bits
-wide-one : (n : ℕ) → n ≤ 32 → 1 * 2 ^ n % 2 ^ 64 ≡ 2 ^ n
-wide-one n h = let l : 1 < 2 ^ 1 = omega arith in shl_exact 1 n 64 l (omega arith) ∙ one-mul (2 ^ n)
-
-pub ones_some : (n : ℕ) → n ≤ 32 → 1 ≤ 1 * 2 ^ n % 2 ^ 64
-ones_some n h = rw (wide-one n h) (omega (arith, pow_pos n))
-
-pub ones_fit : (n : ℕ) → n ≤ 32 → 1 * 2 ^ n % 2 ^ 64 - 1 < 2 ^ 32
-ones_fit n h = let l : 2 ^ n ≤ 2 ^ 32 = pow_mono h in rw (wide-one n h) (omega (arith, pow_pos n))
-
-pub ones_are : (n : ℕ) → n ≤ 32 → 1 * 2 ^ n % 2 ^ 64 - 1 ≡ 2 ^ n - 1
-ones_are n h = rw (wide-one n h)
 
 ones_more : (k : ℕ) → 2 ^ suc k - 1 ≡ 1 * 2 ^ k + (2 ^ k - 1)
 ones_more k = let e : suc k ≡ 1 + k = omega arith in rw e (omega (arith, pow-add 2 1 k, pow_pos k))
@@ -75,49 +59,3 @@ module _ (p j : ℕ) where
   bits_set s n a r b b' h e l f g =
       let e' : a ≡ 40016 + 4112 * p + j = omega arith in
       g ∙ ap (set b a) f ∙ ap (λ x. set b x (place (bits s n) (get_or b x 0) (2 ^ n - 1))) e' ∙ sym (stretch 1 (λ k. 2 ^ k - 1) ones_lt ones_more s (32 * j + s) refl (set_out_run b p (32 * j + s)) (λ k. refl) l n h)
-
--- ---- one bit less
-pub struck-le : (w s : ℕ) → s < 32 → w / 2 ^ s % 2 ^ 1 ≡ 1 → 1 * 2 ^ s % 2 ^ 32 ≤ w
-struck-le w s h e = let l : 1 * 2 ^ s ≤ w = rw (← e) (read-le s 1 w 0) in rw (one_shl s h) (omega arith)
-
-pub struck : (w s : ℕ) → s < 32 → w / 2 ^ s % 2 ^ 1 ≡ 1 → w - 1 * 2 ^ s % 2 ^ 32 ≡ place (bits s 1) w 0
-struck w s h e = rw (one_shl s h, e) (omega arith)
-
--- ---- two entries
-module _ (p x : ℕ) where
-  low_half : (b : List ℕ) (v : ℕ) → put b (slot p (2 * x)) v ≡ set b (40272 + 4112 * p + x) (place (bits 0 16) (get_or b (40272 + 4112 * p + x) 0) v)
-  unfolding put
-  low_half b v =
-      let d : 2 * x / 2 ≡ x = omega arith in
-      let m : 2 * x % 2 ≡ 0 = omega arith in
-      rw (d, m)
-
-  high_half : (b : List ℕ) (v : ℕ) → put b (slot p (2 * x + 1)) v ≡ set b (40272 + 4112 * p + x) (place (bits 16 16) (get_or b (40272 + 4112 * p + x) 0) v)
-  unfolding put
-  high_half b v =
-      let d : (2 * x + 1) / 2 ≡ x = omega arith in
-      let m : (2 * x + 1) % 2 ≡ 1 = omega arith in
-      rw (d, m)
-
-  halves : (w u v : ℕ) → w < 2 ^ 32 → place (bits 16 16) (place (bits 0 16) w u) v ≡ u % 2 ^ 16 + v % 2 ^ 16 * 2 ^ 16
-  halves w u v h =
-      let e : place (bits 0 16) w u / 2 ^ 16 % 2 ^ 16 ≡ w / 2 ^ 16 % 2 ^ 16 = read-place_other w u (below {s = 0} {n = 16} {m = 16} (le_refl 16)) in
-      rw (e, div-one) (two w (w % 2 ^ 16) (w / 2 ^ 16 % 2 ^ 16) (u % 2 ^ 16) (v % 2 ^ 16) (recompose 16 16 h))
-    where
-      two : (w l t u v : ℕ) → t * 2 ^ 16 + l ≡ w → w - l * 2 ^ 0 + u * 2 ^ 0 - t * 2 ^ 16 + v * 2 ^ 16 ≡ u + v * 2 ^ 16
-      two w l t u v e = omega arith
-
-  pub paired : (a l h u v : ℕ) (b b' : List ℕ) → a ≡ 40000 + 4112 * p + (272 + x) → 40272 + 4112 * p + x < length b → get_or b (40272 + 4112 * p + x) 0 < 2 ^ 32
-      → l ≡ u % 2 ^ 16 → h ≡ v % 2 ^ 16 → b' ≡ set b a (l + h * 2 ^ 16 % 2 ^ 32) → b' ≡ put (put b (slot p (2 * x)) u) (slot p (2 * x + 1)) v
-  paired a l h u v b b' e i f e₁ e₂ g =
-      let y = 40272 + 4112 * p + x in
-      let w = get_or b y 0 in
-      let e' : a ≡ y = omega arith in
-      let k : l + h * 2 ^ 16 % 2 ^ 32 ≡ u % 2 ^ 16 + v % 2 ^ 16 * 2 ^ 16 = omega arith in
-      let w' = place (bits 0 16) w u in
-      g
-      ∙ ap (λ z. set b z (l + h * 2 ^ 16 % 2 ^ 32)) e'
-      ∙ ap (set b y) (k ∙ sym (halves w u v f) ∙ sym (ap (λ z. place (bits 16 16) z v) (get_or-set_same b y w' 0 i)))
-      ∙ sym (set-set b y w' _)
-      ∙ sym (high_half (set b y w') v)
-      ∙ sym (ap (λ z. put z (slot p (2 * x + 1)) v) (low_half b u))

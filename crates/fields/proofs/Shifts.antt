@@ -1,11 +1,8 @@
 -- Shifts of a 32-bit word that lose nothing, and what placing bits by them comes to.
-use Rattle.facts.proofs.Prelude.{ℕ, ◌+◌, ◌-◌, ◌*◌, ◌/◌, ◌%◌, ◌^◌, ◌≤◌, ◌<◌, arith, mod-lt, one-mul, div-lt_iff_lt-mul, ◌≡◌, sym, ◌∙◌, subst}
+use Rattle.facts.proofs.Prelude.{ℕ, ◌+◌, ◌-◌, ◌*◌, ◌/◌, ◌%◌, ◌^◌, ◌≤◌, ◌<◌, arith, mod-lt, div-lt_iff_lt-mul, ◌≡◌, sym, ◌∙◌, subst}
 use lib.Pow.{pow_pos, pow-add, shl_exact, shr_lt, shr-shr}
 use Rattle.fields.specs.Field.{bits, read, place}
-use Rattle.fields.proofs.Parts.{read-le, read_small, place-high}
-
-pub one_shl : (n : ℕ) → n < 32 → 1 * 2 ^ n % 2 ^ 32 ≡ 2 ^ n
-one_shl n h = let l : 1 < 2 ^ 1 = omega arith in shl_exact 1 n 32 l (omega arith) ∙ one-mul (2 ^ n)
+use Rattle.fields.proofs.Parts.{read_small, place-high}
 
 place-lt : (k s n w v : ℕ) → s + n ≤ k → w < 2 ^ k → place (bits s n) w v < 2 ^ k
 place-lt k s n w v h l =
@@ -23,9 +20,6 @@ module _ (w s n v d u : ℕ) (hd : d ≡ read (bits s n) w) (hu : u ≡ v % 2 ^ 
 
   new : u * 2 ^ s % 2 ^ 32 ≡ v % 2 ^ n * 2 ^ s
   new = rw hu (shl_exact n s 32 (mod-lt v (pow_pos n)) (omega arith))
-
-  pub takes_out : d * 2 ^ s % 2 ^ 32 ≤ w
-  takes_out = rw old (read-le s n w 0)
 
   pub places : w - d * 2 ^ s % 2 ^ 32 + u * 2 ^ s % 2 ^ 32 ≡ place (bits s n) w v
   places = rw (old, new)

@@ -1,33 +1,38 @@
 // Numbers 1 and 2 of a refused call: the arena's length, and the book's; and what of number 13 every call tests.
-ghost use Rattle.std.specs.Prelude.{◌≡◌, ◌≤◌, length};
+ghost use Rattle.std.specs.Prelude.{◌≡◌, ◌≤◌, IfOk, length};
+ghost use Rattle.words.specs.Refusal.{code_of};
+ghost use Rattle.fields.specs.Field.{arena, size, get};
 ghost use Rattle.fields.specs.Ranges.{length_fault, meta_fault, format_valid, head_valid};
 
+use crate::arena::ArenaField;
 use words::limits::{BOOK_FORMAT, MAX_PAGES};
+use words::refusal::Refusal;
 
 // For an opening: an arena of so many pages, in a book of so many words.
-pub fn length_fault(pages: u64, words: usize) -> u32
-    ensures { result ≡ length_fault pages words }
+pub fn check_length(pages: u64, words: usize) -> Result<(), Refusal>
+    ensures { code_of result ≡ length_fault pages words }
 {
-    if pages == 0 {
-        return 1;
+    if pages == 0 || MAX_PAGES < pages {
+        return Err(Refusal::ArenaLength);
     }
-    if MAX_PAGES < pages {
-        return 1;
+    if words < 40_000 + 4_112 * pages as usize {
+        return Err(Refusal::BookTooShort);
     }
-    if words < 40_000 + 4_112 * (pages as usize) {
-        return 2;
-    }
-    0
+    Ok(())
 }
 
-// For any other call. An empty book has no first word, and reads as length 0.
-pub fn meta_fault(meta: &[u32]) -> u32
-    ensures { result ≡ meta_fault meta.now }
+// For any other call: the arena's length, which is the book's first word. An empty book has none, and reads as length 0.
+#[tactic(auto, using(crate::proofs::Sound::no_words), unfolding(crate::specs::Ranges::meta_fault, crate::specs::Field::get))]
+pub fn arena_size(meta: &[u32]) -> Result<u32, Refusal>
+    ensures fault { code_of result ≡ meta_fault meta.now }
+    ensures value { IfOk result (λ n. n ≡ get meta.now (arena size)) }
 {
-    if meta.len() == 0 {
-        return 1;
+    if meta.is_empty() {
+        return Err(Refusal::ArenaLength);
     }
-    length_fault(meta[0] as u64, meta.len())
+    let size = meta[0];
+    check_length(u64::from(size), meta.len())?;
+    Ok(size)
 }
 
 // An opening of this layout made the book.
@@ -35,7 +40,7 @@ pub fn format_valid(meta: &[u32]) -> bool
     requires { 40000 ≤ length meta.now }
     ensures { result ≡ format_valid meta.now }
 {
-    crate::arena::format(meta) == BOOK_FORMAT
+    ArenaField::Format.get(meta) == BOOK_FORMAT
 }
 
 // And its frontier is within an arena of n pages.
@@ -44,7 +49,7 @@ pub fn head_valid(meta: &[u32], n: u32) -> bool
     ensures { result ≡ head_valid n meta.now }
 {
     if format_valid(meta) {
-        return crate::arena::frontier(meta) <= n;
+        return ArenaField::Frontier.get(meta) <= n;
     }
     false
 }

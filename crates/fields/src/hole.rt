@@ -1,39 +1,39 @@
 // The stored holes.
-ghost use Rattle.std.specs.Prelude.{◌≡◌, ◌+◌, ◌*◌, ◌<◌};
-ghost use Rattle.fields.specs.Field.{hole, start, pages, Has, get, put};
+#![tactic(auto, unfolding(crate::specs::Field::get, crate::specs::Field::put))]
 
-// Word k of hole i.
-fn hole_word(i: u32, k: usize) -> usize
-    requires { k < 2 }
-    ensures { result ≡ 2048 + 2 * i + k }
-{
-    2048 + 2 * (i as usize) + k
+ghost use Rattle.std.specs.Prelude.{◌≡◌};
+ghost use Rattle.fields.specs.Field.{hole, word, Has, get, put};
+ghost use Rattle.fields.specs.way.Names.{hole_name};
+
+// What a hole's row holds, in the order of its words.
+#[derive(Clone, Copy)]
+pub enum HoleField {
+    Start,
+    Pages,
 }
 
-pub fn start(meta: &[u32], i: u32) -> u32
-    requires { Has meta.now (hole start i) }
-    ensures { result ≡ get meta.now (hole start i) }
-{
-    meta[hole_word(i, 0)]
-}
+impl HoleField {
+    #[inline(always)]
+    fn word(self, i: u32) -> usize
+        ensures { result ≡ word (hole (hole_name self) i) }
+    {
+        2048 + 2 * (i as usize) + self as usize
+    }
 
-pub fn set_start(meta: &mut [u32], i: u32, v: u32)
-    requires { Has meta.old (hole start i) }
-    ensures { meta.new ≡ put meta.old (hole start i) v }
-{
-    meta[hole_word(i, 0)] = v;
-}
+    #[inline(always)]
+    pub fn get(self, meta: &[u32], i: u32) -> u32
+        requires { Has meta.now (hole (hole_name self) i) }
+        ensures { result ≡ get meta.now (hole (hole_name self) i) }
+    {
+        meta[self.word(i)]
+    }
 
-pub fn pages(meta: &[u32], i: u32) -> u32
-    requires { Has meta.now (hole pages i) }
-    ensures { result ≡ get meta.now (hole pages i) }
-{
-    meta[hole_word(i, 1)]
-}
-
-pub fn set_pages(meta: &mut [u32], i: u32, v: u32)
-    requires { Has meta.old (hole pages i) }
-    ensures { meta.new ≡ put meta.old (hole pages i) v }
-{
-    meta[hole_word(i, 1)] = v;
+    #[inline(always)]
+    pub fn set(self, meta: &mut [u32], i: u32, v: u32)
+        requires { Has meta.old (hole (hole_name self) i) }
+        ensures { meta.new ≡ put meta.old (hole (hole_name self) i) v }
+    {
+        let at = self.word(i);
+        meta[at] = v;
+    }
 }

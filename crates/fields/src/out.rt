@@ -1,4 +1,6 @@
 // Whether a block of a page is out: bit i of the page's out words.
+#![tactic(auto, unfolding(crate::specs::Field::get, crate::specs::Field::put))]
+
 ghost use Rattle.std.specs.Prelude.{◌≡◌, ◌+◌, ◌*◌, ◌≤◌, ◌<◌};
 ghost use Rattle.fields.specs.Clear.{clear_out};
 ghost use Rattle.fields.specs.Field.{mark, out, word, Has, get, put};

@@ -1,4 +1,6 @@
 // A page's stack of free blocks: entries of 16 bits, two to a word.
+#![tactic(auto, unfolding(crate::specs::Field::get, crate::specs::Field::put))]
+
 ghost use Rattle.std.specs.Prelude.{◌≡◌, ◌+◌, ◌*◌};
 ghost use Rattle.fields.specs.Field.{slot, word, Has, get, put};
 

@@ -1,17 +1,11 @@
--- Laws of `some_below` and `every_below`: one number more, as the loops go, and what they mean.
-use Rattle.facts.proofs.Prelude.{ℕ, zero, suc, ◌+◌, ◌<◌, arith, eq-or-lt_of_le, add-one, Bool, true, false, false≢true, ◌⊎◌, ⊎_elim, ◌≡◌, refl, by_cases, or_left, or_right, and_no}
+-- Laws of `some_below` and `every_below`: what they mean.
+use Rattle.facts.proofs.Prelude.{ℕ, zero, suc, ◌<◌, arith, eq-or-lt_of_le, Bool, true, false, false≢true, ◌⊎◌, ⊎_elim, ◌≡◌, refl, by_cases, or_left, or_right, and_no}
 use Rattle.game.specs.Game.{some_below, every_below}
 
 last_or_below : (m n : ℕ) → m < suc n → (m ≡ n) ⊎ (m < n)
 last_or_below m n h = eq-or-lt_of_le (omega arith)
 
 module _ (f : ℕ → Bool) where
-  pub some_more : (m : ℕ) → some_below f m ≡ false → f m ≡ false → some_below f (m + 1) ≡ false
-  some_more m e h = rw add-one (rw (h, e) refl)
-
-  pub every_more : (m : ℕ) → every_below f m ≡ true → f m ≡ true → every_below f (m + 1) ≡ true
-  every_more m e h = rw add-one (rw (h, e) refl)
-
   pub some-found : (m n : ℕ) → m < n → f m ≡ true → some_below f n ≡ true
   some-found m zero h e = absurd (omega arith)
   some-found m (suc n) h e =

@@ -1,6 +1,6 @@
 -- Lists gathered, and written one after the other as the loops go.
 use Rattle.facts.proofs.Prelude.{ℕ, zero, suc, ◌+◌, ◌-◌, ◌≤◌, ◌<◌, arith, eq-or-lt_of_le, add-one, List, [], ◌∷◌, ◌++◌, List-as-Memᴰ, List·Memᴰ·not-nil, List·Memᴰ·append-cases}
-use Rattle.facts.proofs.Prelude.{Memᴰ·append-left, Memᴰ·append-right, ⊎_elim, ◌≡◌, refl, sym, ap, ◌∙◌, length, set, length-append, sets, length-sets}
+use Rattle.facts.proofs.Prelude.{Memᴰ·append-left, Memᴰ·append-right, ⊎_elim, ◌≡◌, refl, sym, ap, ◌∙◌, length, set, length-append, sets}
 use Rattle.listing.specs.Listing.{gather, Wrote}
 
 sets-append : (l : List ℕ) (i : ℕ) (x y : List ℕ) → sets l i (x ++ y) ≡ sets (sets l i x) (i + length x) y
@@ -50,9 +50,6 @@ pub record Ahead (all rest : List ℕ) (at to : ℕ) (l₀ l : List ℕ) : Type 
 
 pub none_yet : (all rest : List ℕ) (at to : ℕ) (l₀ : List ℕ) → rest ≡ all → to ≡ at → Ahead all rest at to l₀ l₀
 none_yet all rest at to l₀ e d = rw (e, d) (record { ends = refl; gives = refl })
-
-pub same_length : (numbers : List ℕ) (at r : ℕ) (l l' : List ℕ) → Wrote numbers at r l l' → length l' ≡ length l
-same_length numbers at r l l' w = ap length w.list ∙ length-sets l at numbers
 
 -- the lists that a function gives for i on, up to m
 module _ (f : ℕ → List ℕ) (i m : ℕ) (all : List ℕ) (at to : ℕ) (l₀ l : List ℕ) (a : Ahead all (gather f i (m - i)) at to l₀ l) where

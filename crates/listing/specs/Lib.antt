@@ -1,3 +1,4 @@
 pub mod History
 pub mod Node
 pub mod Listing
+pub mod way

@@ -4,13 +4,15 @@
 mod node;
 
 ghost use Rattle.std.specs.Prelude.{◌≡◌, false, ◌+◌, ◌≤◌, length, set};
-ghost use Rattle.listing.specs.Listing.{most_numbers, so_far, list_from, listing, bad_bounds, Wrote, short_histories, ListingEnds};
+ghost use Rattle.listing.specs.Listing.{most_numbers, so_far, list_from, listing, bad_bounds, Wrote, short_histories};
+ghost use Rattle.listing.specs.way.Told.{told};
 
-use node::{MOST_PAGES, Node, after_call, may_call, start};
+use node::{MOST_PAGES, Node};
+use words::refusal::Refusal;
 
 const MOST_CALLS: u64 = 4;
 
-// Writes a number where the list has a place for it.
+// Writes a number where the list has a place for it. Not by `get_mut`: after it the proof knows the list's length alone.
 fn write(out: &mut [u32], at: usize, number: u32)
     ensures { out.new ≡ set out.old at number }
 {
@@ -25,17 +27,13 @@ fn write_history(node: Node, out: &mut [u32], at: usize) -> usize
     requires node_bound { at + length (so_far node) ≤ most_numbers }
     ensures { Wrote (so_far node) at result out.old out.new }
 {
-    let numbers = node.numbers;
-    let calls = node.calls;
-    let mut i = 0;
-    while i < calls {
-        write(out, at + i, numbers[i]);
-        i += 1;
+    for i in 0..node.calls {
+        write(out, at + i, node.numbers[i]);
     }
-    at + i
+    at + node.calls
 }
 
-// Writes all histories that go on by so many calls; answers the place after them.
+// Writes all histories that go on by so many calls; answers the place after them. It calls itself, as document 01 has it.
 fn list_from(n: usize, left: usize, node: Node, out: &mut [u32], at: usize) -> usize
     requires left_bound { node.calls + left ≤ 4 }
     requires node_bound { at + length (list_from n left node) ≤ most_numbers }
@@ -44,14 +42,11 @@ fn list_from(n: usize, left: usize, node: Node, out: &mut [u32], at: usize) -> u
     if left == 0 {
         return write_history(node, out, at);
     }
-    let last = MOST_PAGES + node.calls;
     let mut to = at;
-    let mut number = 1;
-    while number <= last {
-        if may_call(n, node, number) {
-            to = list_from(n, left - 1, after_call(node, number), out, to);
+    for number in 1..MOST_PAGES + node.calls + 1 {
+        if node.may_call(n, number) {
+            to = list_from(n, left - 1, node.after_call(number), out, to);
         }
-        number += 1;
     }
     to
 }
@@ -60,38 +55,30 @@ fn list_from(n: usize, left: usize, node: Node, out: &mut [u32], at: usize) -> u
 fn bad_bounds(pages: u64, calls: u64) -> bool
     ensures { result ≡ bad_bounds pages calls }
 {
-    if pages == 0 {
-        return true;
-    }
-    if (MOST_PAGES as u64) < pages {
-        return true;
-    }
-    MOST_CALLS < calls
+    pages == 0 || (MOST_PAGES as u64) < pages || MOST_CALLS < calls
 }
 
-// How many numbers a listing has: it is made once on a list that keeps but the first of them.
+// How many numbers a listing has: it is made once on a list that keeps none of them.
 fn listing_size(n: usize, k: usize) -> usize
     requires { bad_bounds n k ≡ false }
     ensures { result ≡ length (listing n k) }
 {
-    let mut first = [0u32; 1];
-    list_from(n, k, start(n), &mut first, 0)
+    list_from(n, k, Node::start(n), &mut [], 0)
 }
 
-// Lists all histories of so many calls: 0 with how many numbers were written, or the number of the refusal.
-pub fn short_histories(pages: u64, calls: u64, list: &mut [u32], written: &mut u64) -> u32
-    ensures { ListingEnds (short_histories pages calls list.old) result list.new written.old written.new }
+// Lists all histories of so many calls; answers how many numbers were written.
+pub fn short_histories(pages: u64, calls: u64, list: &mut [u32]) -> Result<u64, Refusal>
+    ensures { told result list.new ≡ short_histories pages calls list.old }
 {
     if bad_bounds(pages, calls) {
-        return 20;
+        return Err(Refusal::Listing);
     }
     let n = pages as usize;
     let k = calls as usize;
     let size = listing_size(n, k);
     if list.len() < size {
-        return 20;
+        return Err(Refusal::Listing);
     }
-    list_from(n, k, start(n), list, 0);
-    *written = size as u64;
-    0
+    list_from(n, k, Node::start(n), list, 0);
+    Ok(size as u64)
 }

@@ -22,85 +22,82 @@ pub struct Node {
     pub fresh: usize,
 }
 
-// Before any call.
-pub fn start(n: usize) -> Node
-    ensures { result ≡ start n }
-{
-    Node {
-        numbers: [0u32; 4],
-        calls: 0,
-        runs: [0usize; 4],
-        hole: 0,
-        fresh: n,
+impl Node {
+    // Before any call.
+    pub fn start(n: usize) -> Node
+        ensures { result ≡ start n }
+    {
+        Node {
+            numbers: [0; 4],
+            calls: 0,
+            runs: [0; 4],
+            hole: 0,
+            fresh: n,
+        }
     }
-}
 
-// A commit, whether it succeeds or not.
-fn commit(node: Node, p: usize) -> Node
-    requires { node.calls < 4 }
-    ensures { result ≡ commit_node node p }
-{
-    let calls = node.calls;
-    let hole = node.hole;
-    let fresh = node.fresh;
-    let mut next = node;
-    if p <= hole {
-        next.runs[calls] = p;
-        next.hole = hole - p;
-        return next;
+    // A commit, whether it succeeds or not.
+    fn commit(self, p: usize) -> Node
+        requires { self.calls < 4 }
+        ensures { result ≡ commit_node self p }
+    {
+        let mut next = self;
+        if p <= self.hole {
+            next.runs[self.calls] = p;
+            next.hole -= p;
+            return next;
+        }
+        if p <= self.fresh {
+            next.runs[self.calls] = p;
+            next.fresh -= p;
+        }
+        next
     }
-    if p <= fresh {
-        next.runs[calls] = p;
-        next.fresh = fresh - p;
-        return next;
+
+    // The release of the run from call j, which leaves its pages as the hole.
+    fn release(self, j: usize) -> Node
+        requires { j < 4 }
+        ensures { result ≡ release_node self j }
+    {
+        let mut next = self;
+        next.hole = self.runs[j];
+        next.runs[j] = 0;
+        next
     }
-    next
-}
 
-// The release of the run from call j, which leaves its pages as the hole.
-fn release(node: Node, j: usize) -> Node
-    requires { j < 4 }
-    ensures { result ≡ release_node node j }
-{
-    let pages = node.runs[j];
-    let mut next = node;
-    next.runs[j] = 0;
-    next.hole = pages;
-    next
-}
-
-// Puts down the number of call i.
-fn note(node: Node, i: usize, number: usize) -> Node
-    requires i_bound { i < 4 }
-    requires number_bound { number < 8 }
-    ensures { result ≡ noted i number node }
-{
-    let mut next = node;
-    next.numbers[i] = number as u32;
-    next.calls = i + 1;
-    next
-}
-
-// May the call that a number stands for come next?
-pub fn may_call(n: usize, node: Node, number: usize) -> bool
-    requires { number < 8 }
-    ensures { result ≡ may_call n node number }
-{
-    if number <= MOST_PAGES {
-        return number <= n;
+    // Puts down the number of call i.
+    fn note(self, i: usize, number: usize) -> Node
+        requires i_bound { i < 4 }
+        requires number_bound { number < 8 }
+        ensures { result ≡ noted i number self }
+    {
+        let mut next = self;
+        next.numbers[i] = number as u32;
+        next.calls = i + 1;
+        next
     }
-    node.runs[number - FIRST_RELEASE] != 0
-}
 
-// The calls and the arena after one call more.
-pub fn after_call(node: Node, number: usize) -> Node
-    requires number_bound { number < 8 }
-    requires calls_bound { node.calls < 4 }
-    ensures { result ≡ after_call node number }
-{
-    let calls = node.calls;
-    if number <= MOST_PAGES {
-        return note(commit(node, number), calls, number);
+    // May the call that a number stands for come next?
+    pub fn may_call(self, n: usize, number: usize) -> bool
+        requires { number < 8 }
+        ensures { result ≡ may_call n self number }
+    {
+        if number <= MOST_PAGES {
+            return number <= n;
+        }
+        self.runs[number - FIRST_RELEASE] != 0
     }
-    note(release(node, number - FIRST_RELEASE), calls, number)
+
+    // The calls and the arena after one call more.
+    pub fn after_call(self, number: usize) -> Node
+        requires number_bound { number < 8 }
+        requires calls_bound { self.calls < 4 }
+        ensures { result ≡ after_call self number }
+    {
+        if number <= MOST_PAGES {
+            return self.commit(number).note(self.calls, number);
+        }
+        self.release(number - FIRST_RELEASE)
+            .note(self.calls, number)
+    }
 }

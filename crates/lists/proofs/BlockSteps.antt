@@ -1,5 +1,5 @@
 -- A block's word and index: sums that stay within 32 bits, as the longest arena's granules do, and the ways out.
-use Rattle.facts.proofs.Prelude.{ℕ, ◌+◌, ◌-◌, ◌*◌, ◌/◌, ◌%◌, ◌^◌, ◌≤◌, ◌<◌, arith, mul-le-mul_right, mod-eq_of_lt, true, List}
+use Rattle.facts.proofs.Prelude.{ℕ, ◌+◌, ◌-◌, ◌*◌, ◌/◌, ◌%◌, ◌^◌, ◌≤◌, ◌<◌, arith, mul-le-mul_right, mod-eq_of_lt, true, not, List}
 use Rattle.facts.proofs.Prelude.{◌≡◌, ap, ◌∙◌, eqb, ltb, leb, eq-eqb, ne_eqb, eqb-true, leb-true, ltb-true, and_left, and_right}
 use Rattle.words.specs.Word.{block_word, pack_block, granule_of}
 use Rattle.classes.specs.declared.Shape.{Shape}
@@ -45,7 +45,7 @@ module _ (sh : Shape) (q w y g : ℕ) (a : IndexPre sh q w) (o : is_block sh q w
   block-index = divides sh a.sound (g - (q * 4096 + sh.header)) block_near ∙ index-done sh q w y g e₁ e₂
 
 module _ (b : List ℕ) (sh : Shape) (q : ℕ) where
-  pub more-free : (f : ℕ) → f ≡ get b (page free q) → (f ≡ 0 → ⊥) → true ≡ has_more b sh q
+  pub more-free : (f : ℕ) → f ≡ get b (page free q) → (f ≡ 0 → ⊥) → not (eqb f 0) ≡ has_more b sh q
   unfolding has_more
   more-free f e h = rw (← e, ne_eqb f 0 h)
 

@@ -1,5 +1,5 @@
 -- The ways out of the functions that carve, and what their loops keep.
-use Rattle.facts.proofs.Prelude.{ℕ, ◌+◌, ◌*◌, ◌/◌, ◌≤◌, ◌<◌, arith, add-one, Bool, true, List, ◌≡◌, refl, ap, ◌∙◌, length, eq-eqb, ne_eqb}
+use Rattle.facts.proofs.Prelude.{ℕ, ◌+◌, ◌-◌, ◌*◌, ◌/◌, ◌%◌, ◌≤◌, ◌<◌, arith, add-one, Bool, true, List, ◌≡◌, refl, ap, ◌∙◌, length, eq-eqb, ne_eqb}
 use mir.Val.{bool_byte}
 use Rattle.classes.specs.declared.Shape.{Shape}
 use Rattle.fields.specs.Field.{page, mark, slot, free, carved, virgin, listed, put}
@@ -35,17 +35,19 @@ push_range_done : (b₀ : List ℕ) (q k : ℕ) (b : List ℕ) (i : ℕ) → k �
 push_range_done b₀ q k b i h v = let e : i ≡ k = omega (arith, v.within) in v.done ∙ ap (λ z. push b₀ q 0 (descending 0 z)) e
 
 module _ (b₀ : List ℕ) (q k : ℕ) (b : List ℕ) (x : ℕ) (v : PushRangeInv b₀ q k b (2 * x)) where
-  pub push_range_pair : (b' : List ℕ) → 2 * x + 1 < k → b' ≡ put (put b (slot q (2 * x)) (2 * x)) (slot q (2 * x + 1)) (2 * x + 1) → PushRangeInv b₀ q k b' (2 * (x + 1))
+  pub push_range_pair : (b' : List ℕ) → x < k / 2 → b' ≡ put (put b (slot q (2 * x)) (2 * x)) (slot q (2 * x + 1)) (2 * x + 1) → PushRangeInv b₀ q k b' (2 * (x + 1))
   push_range_pair b' h e =
       let w = push_range_again b₀ q k b (put b (slot q (2 * x)) (2 * x)) (2 * x) (omega arith) v refl in
       let n : 2 * x + 1 + 1 ≡ 2 * (x + 1) = omega arith in
-      rw n at (push_range_again b₀ q k (put b (slot q (2 * x)) (2 * x)) b' (2 * x + 1) h w e)
+      rw n at (push_range_again b₀ q k (put b (slot q (2 * x)) (2 * x)) b' (2 * x + 1) (omega arith) w e)
 
-  pub push_range_last : (b' : List ℕ) → k ≤ 2 * x + 1 → 2 * x < k → b' ≡ put b (slot q (2 * x)) (2 * x) → b' ≡ push b₀ q 0 (descending 0 k)
-  push_range_last b' l h e = push_range_done b₀ q k b' (2 * x + 1) l (push_range_again b₀ q k b b' (2 * x) h v e)
+  pub push_range_last : (b' : List ℕ) → k / 2 ≤ x → k % 2 ≡ 1 → b' ≡ put b (slot q (k - 1)) (k - 1) → b' ≡ push b₀ q 0 (descending 0 k)
+  push_range_last b' l h e =
+      let n : k - 1 ≡ 2 * x = omega (arith, v.within) in
+      push_range_done b₀ q k b' (2 * x + 1) (omega arith) (push_range_again b₀ q k b b' (2 * x) (omega (arith, v.within)) v (rw n at e))
 
-  pub push_range_all : k ≤ 2 * x → b ≡ push b₀ q 0 (descending 0 k)
-  push_range_all h = push_range_done b₀ q k b (2 * x) h v
+  pub push_range_all : k / 2 ≤ x → (k % 2 ≡ 1 → ⊥) → b ≡ push b₀ q 0 (descending 0 k)
+  push_range_all l h = push_range_done b₀ q k b (2 * x) (omega (arith, h)) v
 
 -- ---- words of out bits and of marks
 pub record ClearInv (b₀ : List ℕ) (q k : ℕ) (b : List ℕ) (i : ℕ) : Type 0 where

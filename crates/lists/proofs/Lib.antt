@@ -8,4 +8,3 @@ mod StretchSteps
 pub mod ListSteps
 pub mod RunSteps
 pub mod CarveSteps
-pub mod ValidSteps

@@ -1,7 +1,7 @@
 -- The ways out of the functions on a class's lists.
 use Rattle.facts.proofs.Prelude.{ℕ, zero, suc, ◌+◌, ◌-◌, sub-one, true, List, ◌≡◌, refl, ltb, length, lt-ltb}
 use Rattle.words.specs.Limits.{class_rows}
-use Rattle.fields.specs.Field.{ClassField, class, page, partial, next, prev, listed, get, put}
+use Rattle.fields.specs.Field.{class, page, partial, next, prev, listed, get, put}
 use Rattle.fields.specs.Outcome.{put_at}
 use Rattle.fields.proofs.Laws.{get-put_other, length-put}
 use Rattle.pages.specs.declared.Park.{Park}
@@ -15,13 +15,6 @@ point_next-none b b' c code v h e = rw h e
 pub point_next-some : (b b' : List ℕ) (c code v : ℕ) → (code ≡ 0 → ⊥) → b' ≡ put b (page next (code - 1)) v → b' ≡ point_next b c code v
 point_next-some b b' c zero v h e = absurd (h refl)
 point_next-some b b' c (suc q) v h e = rw sub-one at e
-
--- a field of the store that a match found
-pub read_told : (f : Park → ClassField) (b : List ℕ) (c r : ℕ) (k k' : Park) → k ≡ k' → r ≡ get b (class (f k') c) → r ≡ get b (class (f k) c)
-read_told f b c r k k' e h = rw e h
-
-pub put-told : (f : Park → ClassField) (b b' : List ℕ) (c v : ℕ) (k k' : Park) → k ≡ k' → b' ≡ put b (class (f k') c) v → b' ≡ put b (class (f k) c) v
-put-told f b b' c v k k' e h = rw e h
 
 -- a page that leaves a store: the partial list's head is as it was
 partial-pop_store : (b : List ℕ) (c : ℕ) (k : Park) (q : ℕ) → ltb c class_rows ≡ true → get (pop_store b c k q) (class partial c) ≡ get b (class partial c)

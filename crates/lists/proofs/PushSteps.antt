@@ -120,6 +120,27 @@ module _ (b₀ : List ℕ) (sh : Shape) (q x : ℕ) (ws : List ℕ) (n : ℕ) wh
       pairing_last b' k h d e f =
           f ∙ pushing-done b₀ sh q (2 * x) (take n ws) (put b (slot q (2 * t)) k) (i - 1) (2 * t + 1) (omega arith) (one k 0 (omega arith) (omega arith) e)
 
+    -- j pairs are pushed
+    pub pairing-start : Pairing b₀ (n - 0) (x + 0)
+    pairing-start = let e : n - 0 ≡ n = omega arith in rw (e, add-zero x) pairing_none
+
+    module _ (b : List ℕ) (j : ℕ) (v : Pairing b (n - 2 * j) (x + j)) where
+      pub pairing-turn : (b' : List ℕ) (k l : ℕ) → j < n / 2 → k ≡ index_of sh q (get_or ws (n - 2 * j - 2 + 1) 0) → l ≡ index_of sh q (get_or ws (n - 2 * j - 2) 0)
+          → b' ≡ put (put b (slot q (2 * (x + j))) k) (slot q (2 * (x + j) + 1)) l → Pairing b' (n - 2 * (j + 1)) (x + (j + 1))
+      pairing-turn b' k l h e₁ e₂ e =
+          let i : n - 2 * j - 2 ≡ n - 2 * (j + 1) = omega arith in
+          let t : x + j + 1 ≡ x + (j + 1) = omega arith in
+          rw (i, t) at (pairing_more b (n - 2 * j) (x + j) v b' k l (omega arith) e₁ e₂ e)
+
+      pub pairing-odd : (b' : List ℕ) (k : ℕ) → n / 2 ≤ j → j ≤ n / 2 → n % 2 ≡ 1 → k ≡ index_of sh q (get_or ws 0 0) → b' ≡ put b (slot q (2 * (x + n / 2))) k
+          → b' ≡ push b₀ q (2 * x) (map (index_of sh q) (take n ws))
+      pairing-odd b' k l m o e f =
+          let t : n / 2 ≡ j = omega arith in
+          pairing_last b (n - 2 * j) (x + j) v b' k (omega arith) (λ z. omega arith) e (rw t at f)
+
+      pub pairing-even : n / 2 ≤ j → (n % 2 ≡ 1 → ⊥) → b ≡ push b₀ q (2 * x) (map (index_of sh q) (take n ws))
+      pairing-even l o = pairing_done b (n - 2 * j) (x + j) v (omega (arith, o))
+
 -- ---- one below them
 push-under : (b : List ℕ) (q t j : ℕ) (is : List ℕ) → push (put b (slot q t) j) q (t + 1) is ≡ push b q t (is ++ (j ∷ []))
 push-under b q t j [] = rw add-zero

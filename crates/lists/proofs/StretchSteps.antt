@@ -1,5 +1,5 @@
 -- Blocks on the stack that follow one another: the tests, and what they give.
-use Rattle.facts.proofs.Prelude.{ℕ, suc, ◌+◌, ◌-◌, ◌*◌, ◌≤◌, ◌<◌, arith, Bool, true, ◌&&◌, List, ◌∷◌, reverse, ◌≡◌, sym, ap, ap₂, ◌∙◌, eqb, eqb-true, and_left, and_right}
+use Rattle.facts.proofs.Prelude.{ℕ, suc, ◌+◌, ◌-◌, ◌*◌, ◌≤◌, ◌<◌, arith, Bool, true, ◌&&◌, List, ◌∷◌, reverse, add-zero, ◌≡◌, sym, ap, ap₂, ◌∙◌, eqb, eqb-true, and_left, and_right}
 use Rattle.fields.specs.Field.{slot, get}
 use Rattle.pages.specs.Stack.{top_entries, descending}
 use Rattle.pages.proofs.TopEntries.{popped-more}
@@ -64,6 +64,18 @@ module _ (b : List ℕ) (q : ℕ) where
     pub rising-done : (so : Bool) (z i : ℕ) → y ≤ z → Rising so z i → so ≡ true → top_entries b q (2 * y - 2 * x) (2 * y) ≡ descending a (2 * y - 2 * x)
     rising-done so z i h v s = let e : z ≡ y = omega (arith, v.within) in rw e at (v.rises s)
 
+    pub rising-turn : (so r : Bool) (j : ℕ) → j < y - x → Rising so (x + j) (a + 2 * j) → r ≡ pair_is (x + j) (a + 2 * j) (a + 2 * j + 1) so → Rising r (x + (j + 1)) (a + 2 * (j + 1))
+    rising-turn so r j h v e =
+        let z : x + j + 1 ≡ x + (j + 1) = omega arith in
+        let i : a + 2 * j + 2 ≡ a + 2 * (j + 1) = omega arith in
+        rw (z, i) at (rising-more so r (x + j) (a + 2 * j) (omega arith) v e)
+
+    pub rising-start : StretchPre b q x y a → Rising true (x + 0) (a + 0)
+    rising-start h = rw (add-zero x, add-zero a) (rising_none h)
+
+    pub rising-end : (so : Bool) (j : ℕ) → y - x ≤ j → Rising so (x + j) (a + 2 * j) → so ≡ true → top_entries b q (2 * y - 2 * x) (2 * y) ≡ descending a (2 * y - 2 * x)
+    rising-end so j h v = rising-done so (x + j) (a + 2 * j) (omega arith) v
+
     -- ---- the lowest on top
     pub record Falling (so : Bool) (z i : ℕ) : Type 0 where
       pub begun : z ≤ y
@@ -100,3 +112,16 @@ module _ (b : List ℕ) (q : ℕ) where
 
     pub falling_done : (so : Bool) (z i : ℕ) → z ≤ x → Falling so z i → so ≡ true → reverse (top_entries b q (2 * y - 2 * x) (2 * y)) ≡ descending a (2 * y - 2 * x)
     falling_done so z i h v s = let e : z ≡ x = omega (arith, v.within) in rw e at (v.falls s)
+
+    pub falling-turn : (so r : Bool) (j : ℕ) → j < y - x → Falling so (y - j) (a + 2 * j) → r ≡ pair_is (y - 1 - j) (a + 2 * j + 1) (a + 2 * j) so → Falling r (y - (j + 1)) (a + 2 * (j + 1))
+    falling-turn so r j h v e =
+        let w : y - 1 - j ≡ y - j - 1 = omega arith in
+        let z : y - j - 1 ≡ y - (j + 1) = omega arith in
+        let i : a + 2 * j + 2 ≡ a + 2 * (j + 1) = omega arith in
+        rw (z, i) at (falling_more so r (y - j) (a + 2 * j) (omega arith) v (rw w at e))
+
+    pub falling-start : StretchPre b q x y a → Falling true (y - 0) (a + 0)
+    falling-start h = let z : y - 0 ≡ y = omega arith in rw (z, add-zero a) (falling_none h)
+
+    pub falling-end : (so : Bool) (j : ℕ) → y - x ≤ j → Falling so (y - j) (a + 2 * j) → so ≡ true → reverse (top_entries b q (2 * y - 2 * x) (2 * y)) ≡ descending a (2 * y - 2 * x)
+    falling-end so j h v = falling_done so (y - j) (a + 2 * j) (omega arith) v

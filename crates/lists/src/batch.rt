@@ -4,7 +4,7 @@ ghost use Rattle.model.specs.Page.{word_of};
 ghost use Rattle.pages.specs.Stack.{descending, set_outs, spliced, HandedOut};
 ghost use Rattle.pages.specs.way.Pre.{NamePre, SetOutRunPre, FreshPre};
 
-use crate::blocks::{min, word_of};
+use crate::blocks::word_of;
 use classes::Shape;
 
 // The words of k blocks from block `from` on, to the list's places below `at`.
@@ -12,10 +12,8 @@ fn name_blocks(shape: Shape, q: u32, list: &mut [u64], at: u32, from: u32, k: u3
     requires { NamePre shape q list.old at from k }
     ensures { list.new ≡ spliced list.old (at - k) (map (word_of shape q) (descending from k)) }
 {
-    let mut j = 0;
-    while j < k {
+    for j in 0..k {
         list[(at - 1 - j) as usize] = word_of(shape, q, from + j);
-        j += 1;
     }
 }
 
@@ -24,14 +22,12 @@ fn raise_names(shape: Shape, q: u32, list: &mut [u64], at: u32, from: u32, k: u3
     requires { NamePre shape q list.old at from k }
     ensures { list.new ≡ spliced list.old (at - k) (map (word_of shape q) (reverse (descending from k))) }
 {
-    let mut j = 0;
-    while j < k {
+    for j in 0..k {
         list[(at - 1 - j) as usize] = word_of(shape, q, from + (k - 1 - j));
-        j += 1;
     }
 }
 
-// k blocks from block `from` on are out.
+// k blocks from block `from` on are out. No `for`: the first and the last word may take fewer than 32 of them.
 fn set_out_run(meta: &mut [u32], q: u32, from: u32, k: u32)
     requires { SetOutRunPre meta.old q from k }
     ensures { meta.new ≡ set_outs meta.old q 1 (descending from k) }
@@ -40,7 +36,7 @@ fn set_out_run(meta: &mut [u32], q: u32, from: u32, k: u32)
     let mut left = k;
     while left != 0 {
         let bit = i % 32;
-        let n = min(32 - bit, left);
+        let n = (32 - bit).min(left);
         fields::out::set_in_word(meta, q, i / 32, bit, n);
         i += n;
         left -= n;

@@ -1,21 +1,16 @@
 // A block's word and index, and whether a page has one to give.
-ghost use Rattle.std.specs.Prelude.{◌≡◌, ◌+◌, ◌≤◌, min, length, true};
+ghost use Rattle.std.specs.Prelude.{◌≡◌, ◌+◌, ◌≤◌, length, true};
 ghost use Rattle.fields.specs.Field.{words};
 ghost use Rattle.model.specs.Page.{word_of};
 ghost use Rattle.pages.specs.Stack.{has_more, index_of, is_block};
 ghost use Rattle.pages.specs.way.Pre.{WordPre, IndexPre};
 
 use classes::Shape;
+use fields::page::PageField;
 use words::Word;
 
 // Granules of a page.
 const PAGE_GRANULES: u64 = 4096;
-
-pub fn min(a: u32, b: u32) -> u32
-    ensures { result ≡ min a b }
-{
-    if a < b { a } else { b }
-}
 
 // The word of block i of the run at q.
 pub fn word_of(shape: Shape, q: u32, i: u32) -> u64
@@ -45,8 +40,5 @@ pub fn has_more(meta: &[u32], shape: Shape, q: u32) -> bool
     requires { words (q + 1) ≤ length meta.now }
     ensures { result ≡ has_more meta.now shape q }
 {
-    if fields::page::free(meta, q) != 0 {
-        return true;
-    }
-    fields::page::carved(meta, q) < shape.capacity
+    PageField::Free.get(meta, q) != 0 || PageField::Carved.get(meta, q) < shape.capacity
 }

@@ -6,6 +6,7 @@ ghost use Rattle.pages.specs.way.Pre.{PushRangePre, CarvePre, ClearPre, NewPre};
 
 use crate::runs::name_run;
 use classes::Shape;
+use fields::page::PageField;
 use words::Word;
 
 // Blocks 0 to k - 1 lie on the page's stack, the highest on top: two a turn, which are one word.
@@ -13,13 +14,11 @@ fn push_range(meta: &mut [u32], q: u32, k: u32)
     requires { PushRangePre meta.old q k }
     ensures { meta.new ≡ push meta.old q 0 (descending 0 k) }
 {
-    let mut x = 0;
-    while 2 * x + 1 < k {
+    for x in 0..k / 2 {
         fields::slot::set_pair(meta, q, x, 2 * x, 2 * x + 1);
-        x += 1;
     }
-    if 2 * x < k {
-        fields::slot::set_entry(meta, q, 2 * x, 2 * x);
+    if k % 2 == 1 {
+        fields::slot::set_entry(meta, q, k - 1, k - 1);
     }
 }
 
@@ -40,9 +39,9 @@ pub fn carve_anew(meta: &mut [u32], shape: Shape, q: u32, virgin: bool)
 {
     let k = carved_at_once(shape);
     push_range(meta, q, k);
-    fields::page::set_virgin(meta, q, virgin as u32);
-    fields::page::set_carved(meta, q, k);
-    fields::page::set_free(meta, q, k);
+    PageField::Virgin.set(meta, q, virgin as u32);
+    PageField::Carved.set(meta, q, k);
+    PageField::Free.set(meta, q, k);
 }
 
 // The blocks of the first k words of out bits are not out, and not marked.
@@ -50,11 +49,9 @@ pub fn clear_bits(meta: &mut [u32], q: u32, k: u32)
     requires { ClearPre meta.old q k }
     ensures { meta.new ≡ bare_bits meta.old q k }
 {
-    let mut j = 0;
-    while j < k {
+    for j in 0..k {
         fields::out::clear_word(meta, q, j);
         fields::marks::set_word(meta, q, j, 0);
-        j += 1;
     }
 }
 
@@ -64,6 +61,6 @@ pub fn new_run(meta: &mut [u32], shape: Shape, q: u32)
 {
     name_run(meta, q, shape.pages);
     clear_bits(meta, q, (shape.capacity + 31) / 32);
-    fields::page::set_listed(meta, q, 0);
+    PageField::Listed.set(meta, q, 0);
     carve_anew(meta, shape, q, true);
 }

@@ -5,9 +5,9 @@ ghost use Rattle.pages.specs.Stack.{top_entries, descending, HandedOut, Drawn};
 ghost use Rattle.pages.specs.way.Pre.{BothPre, DrawPre};
 
 use crate::batch::carve_blocks;
-use crate::blocks::min;
 use crate::pop::pop_blocks;
 use classes::Shape;
+use fields::page::PageField;
 
 // `popped` blocks from a stack of `top`, then `fresh` new ones from block `from` on.
 fn give_blocks(
@@ -33,12 +33,12 @@ pub fn draw_blocks(meta: &mut [u32], shape: Shape, q: u32, list: &mut [u64], at:
     requires { DrawPre meta.old shape q list.old at m }
     ensures { Drawn result meta.new list.new meta.old shape q list.old at m }
 {
-    let free = fields::page::free(meta, q);
-    let carved = fields::page::carved(meta, q);
-    let popped = min(m, free);
-    let fresh = min(m - popped, shape.capacity - carved);
+    let free = PageField::Free.get(meta, q);
+    let carved = PageField::Carved.get(meta, q);
+    let popped = m.min(free);
+    let fresh = (m - popped).min(shape.capacity - carved);
     give_blocks(meta, shape, q, list, at, free, popped, carved, fresh);
-    fields::page::set_free(meta, q, free - popped);
-    fields::page::set_carved(meta, q, carved + fresh);
+    PageField::Free.set(meta, q, free - popped);
+    PageField::Carved.set(meta, q, carved + fresh);
     popped + fresh
 }

@@ -13,7 +13,7 @@ mod runs;
 mod stores;
 mod valid;
 
-pub use blocks::{has_more, index_of, min, word_of};
+pub use blocks::{has_more, index_of, word_of};
 pub use carve::{carve_anew, new_run};
 pub use draw::draw_blocks;
 pub use links::{link_partial, unlink_partial};

@@ -6,13 +6,16 @@ ghost use Rattle.fields.specs.Outcome.{put_at};
 ghost use Rattle.pages.specs.Links.{point_next, linked, cut_out, link, unlink};
 ghost use Rattle.pages.specs.way.Pre.{LinkPre, CutPre, UnlinkPre};
 
+use fields::class::ClassField;
+use fields::page::PageField;
+
 // PREV of the page that a code stands for, where it stands for one.
 fn set_prev_at(meta: &mut [u32], code: u32, v: u32)
     requires { words code ≤ length meta.old }
     ensures { meta.new ≡ put_at meta.old prev code v }
 {
     if code != 0 {
-        fields::page::set_prev(meta, code - 1, v);
+        PageField::Prev.set(meta, code - 1, v);
     }
 }
 
@@ -23,9 +26,9 @@ fn point_next(meta: &mut [u32], c: u32, code: u32, v: u32)
     ensures { meta.new ≡ point_next meta.old c code v }
 {
     if code == 0 {
-        fields::class::set_partial(meta, c, v);
+        ClassField::Partial.set(meta, c, v);
     } else {
-        fields::page::set_next(meta, code - 1, v);
+        PageField::Next.set(meta, code - 1, v);
     }
 }
 
@@ -34,11 +37,11 @@ fn enter_head(meta: &mut [u32], c: u32, q: u32)
     requires { LinkPre meta.old c q }
     ensures { meta.new ≡ linked meta.old c q }
 {
-    let head = fields::class::partial(meta, c);
-    fields::page::set_next(meta, q, head);
-    fields::page::set_prev(meta, q, 0);
+    let head = ClassField::Partial.get(meta, c);
+    PageField::Next.set(meta, q, head);
+    PageField::Prev.set(meta, q, 0);
     set_prev_at(meta, head, q + 1);
-    fields::class::set_partial(meta, c, q + 1);
+    ClassField::Partial.set(meta, c, q + 1);
 }
 
 pub fn link_partial(meta: &mut [u32], c: u32, q: u32)
@@ -46,7 +49,7 @@ pub fn link_partial(meta: &mut [u32], c: u32, q: u32)
     ensures { meta.new ≡ link meta.old c q }
 {
     enter_head(meta, c, q);
-    fields::page::set_listed(meta, q, 1);
+    PageField::Listed.set(meta, q, 1);
 }
 
 // Page q, whose neighbours' codes are `next` and `prev`, is cut out.
@@ -56,16 +59,16 @@ fn cut_out(meta: &mut [u32], c: u32, q: u32, next: u32, prev: u32)
 {
     point_next(meta, c, prev, next);
     set_prev_at(meta, next, prev);
-    fields::page::set_next(meta, q, 0);
-    fields::page::set_prev(meta, q, 0);
+    PageField::Next.set(meta, q, 0);
+    PageField::Prev.set(meta, q, 0);
 }
 
 pub fn unlink_partial(meta: &mut [u32], c: u32, q: u32)
     requires { UnlinkPre meta.old c q }
     ensures { meta.new ≡ unlink meta.old c q }
 {
-    let next = fields::page::next(meta, q);
-    let prev = fields::page::prev(meta, q);
+    let next = PageField::Next.get(meta, q);
+    let prev = PageField::Prev.get(meta, q);
     cut_out(meta, c, q, next, prev);
-    fields::page::set_listed(meta, q, 0);
+    PageField::Listed.set(meta, q, 0);
 }

@@ -58,12 +58,9 @@ fn rises(meta: &[u32], q: u32, x: u32, y: u32, a: u32) -> bool
     ensures { result ≡ true → top_entries meta.now q (2 * y - 2 * x) (2 * y) ≡ descending a (2 * y - 2 * x) }
 {
     let mut so = true;
-    let mut z = x;
-    let mut i = a;
-    while z < y {
-        so = pair_is(meta, q, z, i, i + 1, so);
-        z += 1;
-        i += 2;
+    for j in 0..y - x {
+        let i = a + 2 * j;
+        so = pair_is(meta, q, x + j, i, i + 1, so);
     }
     so
 }
@@ -74,12 +71,9 @@ fn falls(meta: &[u32], q: u32, x: u32, y: u32, a: u32) -> bool
     ensures { result ≡ true → reverse (top_entries meta.now q (2 * y - 2 * x) (2 * y)) ≡ descending a (2 * y - 2 * x) }
 {
     let mut so = true;
-    let mut z = y;
-    let mut i = a;
-    while z > x {
-        z -= 1;
-        so = pair_is(meta, q, z, i + 1, i, so);
-        i += 2;
+    for j in 0..y - x {
+        let i = a + 2 * j;
+        so = pair_is(meta, q, y - 1 - j, i + 1, i, so);
     }
     so
 }
@@ -89,10 +83,8 @@ fn pop_mixed(meta: &mut [u32], shape: Shape, q: u32, list: &mut [u64], at: u32, 
     requires { PopPre meta.old shape q list.old at (2 * x) (2 * k) }
     ensures { HandedOut meta.old shape q list.old at (reverse (top_entries meta.old q (2 * k) (2 * x))) meta.new list.new }
 {
-    let mut j = 0;
-    while j < k {
+    for j in 0..k {
         pop_pair(meta, shape, q, list, at - 2 * j, x - 1 - j);
-        j += 1;
     }
 }
 

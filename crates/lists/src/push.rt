@@ -8,6 +8,7 @@ ghost use Rattle.fields.specs.Field.{page, free, get, words};
 
 use crate::blocks::index_of;
 use classes::Shape;
+use fields::page::PageField;
 
 // The list's first n blocks on a stack of 2 x entries, two at a time: entries 2 x and 2 x + 1 are one word.
 fn push_pairs(meta: &mut [u32], shape: Shape, q: u32, x: u32, list: &[u64], n: usize)
@@ -15,23 +16,21 @@ fn push_pairs(meta: &mut [u32], shape: Shape, q: u32, x: u32, list: &[u64], n: u
     requires list_value { every (is_block shape q) list.now ≡ true }
     ensures { meta.new ≡ push meta.old q (2 * x) (map (index_of shape q) (take n list.now)) }
 {
-    let mut i = n;
-    let mut t = x;
-    while i > 1 {
-        i -= 2;
+    let pairs = n / 2;
+    for j in 0..pairs {
+        let i = n - 2 * j - 2;
         fields::slot::set_pair(
             meta,
             q,
-            t,
+            x + j as u32,
             index_of(shape, q, list[i + 1]),
             index_of(shape, q, list[i]),
         );
-        t += 1;
     }
-    if i == 0 {
-        return;
+    if n % 2 == 1 {
+        let last = index_of(shape, q, list[0]);
+        fields::slot::set_entry(meta, q, 2 * (x + pairs as u32), last);
     }
-    fields::slot::set_entry(meta, q, 2 * t, index_of(shape, q, list[0]));
 }
 
 // The list's blocks on a stack of `top`, the list's first on top.
@@ -62,10 +61,10 @@ pub fn push_list(meta: &mut [u32], shape: Shape, q: u32, list: &[u64])
     requires list_value { every (is_block shape q) list.now ≡ true }
     ensures { meta.new ≡ pushed meta.old q (map (index_of shape q) list.now) }
 {
-    let top = fields::page::free(meta, q);
+    let top = PageField::Free.get(meta, q);
     push_entries(meta, shape, q, top, list);
-    fields::page::set_virgin(meta, q, 0);
-    fields::page::set_free(meta, q, top + list.len() as u32);
+    PageField::Virgin.set(meta, q, 0);
+    PageField::Free.set(meta, q, top + list.len() as u32);
 }
 
 // As `push_list` of the block alone.
@@ -74,8 +73,8 @@ pub fn push_one(meta: &mut [u32], q: u32, i: u32)
     requires q_bound { get meta.old (page free q) < page_slots }
     ensures { meta.new ≡ pushed meta.old q (i ∷ []) }
 {
-    let top = fields::page::free(meta, q);
+    let top = PageField::Free.get(meta, q);
     fields::slot::set_entry(meta, q, top, i);
-    fields::page::set_virgin(meta, q, 0);
-    fields::page::set_free(meta, q, top + 1);
+    PageField::Virgin.set(meta, q, 0);
+    PageField::Free.set(meta, q, top + 1);
 }

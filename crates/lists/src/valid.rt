@@ -5,6 +5,8 @@ ghost use Rattle.pages.specs.way.Pre.{PagePre, RowPre};
 
 use crate::stores::{store_count, store_top};
 use classes::Shape;
+use fields::arena::ArenaField;
+use fields::page::PageField;
 use pages::Park;
 use words::limits::MAX_PARKED;
 
@@ -13,18 +15,12 @@ pub fn header_valid(meta: &[u32], shape: Shape, m: usize, q: u32) -> bool
     requires { PagePre meta.now q }
     ensures { result ≡ header_valid meta.now shape m q }
 {
-    let carved = fields::page::carved(meta, q);
-    if carved > shape.capacity {
-        return false;
-    }
-    let free = fields::page::free(meta, q);
-    if free > carved {
-        return false;
-    }
-    if m > (carved - free) as usize {
-        return false;
-    }
-    fields::page::virgin(meta, q) <= 1
+    let carved = PageField::Carved.get(meta, q);
+    let free = PageField::Free.get(meta, q);
+    carved <= shape.capacity
+        && free <= carved
+        && m <= (carved - free) as usize
+        && PageField::Virgin.get(meta, q) <= 1
 }
 
 // A page's links are read only where it is listed.
@@ -32,22 +28,15 @@ pub fn links_valid(meta: &[u32], q: u32) -> bool
     requires { PagePre meta.now q }
     ensures { result ≡ links_valid meta.now q }
 {
-    if fields::page::listed(meta, q) != 1 {
-        return true;
-    }
-    let frontier = fields::arena::frontier(meta);
-    if fields::page::next(meta, q) > frontier {
-        return false;
-    }
-    fields::page::prev(meta, q) <= frontier
+    let frontier = ArenaField::Frontier.get(meta);
+    PageField::Listed.get(meta, q) != 1
+        || (PageField::Next.get(meta, q) <= frontier && PageField::Prev.get(meta, q) <= frontier)
 }
 
 pub fn store_valid(meta: &[u32], c: u32, park: Park) -> bool
     requires { RowPre meta.now c }
     ensures { result ≡ store_valid meta.now c park }
 {
-    if store_top(meta, c, park) > fields::arena::frontier(meta) {
-        return false;
-    }
-    store_count(meta, c, park) <= MAX_PARKED
+    store_top(meta, c, park) <= ArenaField::Frontier.get(meta)
+        && store_count(meta, c, park) <= MAX_PARKED
 }

@@ -4,7 +4,7 @@
 ghost use Rattle.std.specs.Prelude.{◌≡◌, ◌<◌};
 ghost use Rattle.mediumlist.specs.Line.{line_of};
 
-use std::io;
+use std::{fmt, io};
 
 // What a line says of a class.
 #[derive(Drop)]
@@ -28,22 +28,20 @@ fn describe(class: u32) -> Line
     }
 }
 
-fn print(rt: &impl Print, n: u32, end: char) -> io::Result<()> {
-    print!(rt; "{n}{end}")
-}
-
-fn print_line(rt: &impl Print, line: Line) -> io::Result<()> {
-    print(rt, line.class, ' ')?;
-    print(rt, line.bytes, ' ')?;
-    print(rt, line.pages, ' ')?;
-    print(rt, line.blocks, '\n')
+impl fmt::Display for Line {
+    fn fmt<W: fmt::Write>(&self, f: &mut fmt::Formatter<W>) -> fmt::Result {
+        write!(
+            f,
+            "{} {} {} {}",
+            self.class, self.bytes, self.pages, self.blocks
+        )
+    }
 }
 
 fn main(rt: HostRuntime) -> io::Result<()> {
-    print!(rt; "medium ")?;
-    print(&rt, classes::NUM_MEDIUM, '\n')?;
+    println!(rt; "medium {}", classes::NUM_MEDIUM)?;
     for class in 0..classes::NUM_MEDIUM {
-        print_line(&rt, describe(class))?;
+        println!(rt; "{}", describe(class))?;
     }
     Ok(())
 }

@@ -1,29 +1,15 @@
 -- The steps of number 14's functions.
-use Rattle.facts.proofs.Prelude.{ℕ, ◌+◌, ◌≤◌, ◌<◌, arith, add-one, Bool, true, false, not, ◌&&◌, List, ◌≡◌, refl, sym, ◌∙◌, eqb, leb, ltb, length, get_or, drop, drop-cons, ltb-false}
-use Rattle.facts.proofs.Prelude.{eqb-true, not-false, le-leb, lt-leb, lt-ltb, le-ltb, eq-eqb, ne_eqb, every, and_left, and_right, or_left, or_right, nor_left, nor_right, drop_past}
+use Rattle.facts.proofs.Prelude.{ℕ, Bool, true, false, not, ◌&&◌, ◌||◌, List, [], ◌∷◌, ◌≡◌, refl, sym, ◌∙◌, eqb, leb, ltb, length, ltb-false}
+use Rattle.facts.proofs.Prelude.{eqb-true, not-false, every, and_left, and_right, nor_left, nor_right}
+use Rattle.std.specs.List.{list_all}
 use Rattle.classes.specs.Sizes.{max_medium_size}
 use Rattle.plan.specs.Plan.{entries_max, takes_max, bad_plan}
 use Rattle.plan.specs.Code.{Fine}
+use Rattle.plan.specs.way.Outcome.{bad_lengths}
 
--- ---- all_within: what is left of the list decides
-pub record WithinInv (limit : ℕ) (l : List ℕ) (i : ℕ) : Type 0 where
-  pub at : i ≤ length l
-  pub rest : every (λ k. leb k limit) (drop i l) ≡ every (λ k. leb k limit) l
-
-module _ (limit : ℕ) (l : List ℕ) where
-  pub within-start : WithinInv limit l 0
-  within-start = record { at = omega arith; rest = refl }
-
-  pub within_stop : (i : ℕ) → WithinInv limit l i → i < length l → limit < get_or l i 0 → false ≡ every (λ k. leb k limit) l
-  within_stop i v h g = sym (sym v.rest ∙ rw (drop-cons l i 0, lt-leb (get_or l i 0) limit g))
-
-  pub within-next : (i : ℕ) → WithinInv limit l i → i < length l → get_or l i 0 ≤ limit → WithinInv limit l (i + 1)
-  within-next i v h g =
-      let e : every (λ k. leb k limit) (drop i l) ≡ every (λ k. leb k limit) (drop (i + 1) l) = rw (add-one, drop-cons l i 0, le-leb (get_or l i 0) limit g) in
-      record { at = omega arith; rest = sym e ∙ v.rest }
-
-  pub within_end : (i : ℕ) → WithinInv limit l i → length l ≤ i → true ≡ every (λ k. leb k limit) l
-  within_end i v h = let z : every (λ k. leb k limit) (drop i l) ≡ true = rw (drop_past l i h) in sym z ∙ v.rest
+pub all_every : (t : ℕ → Bool) (xs : List ℕ) → list_all t xs ≡ every t xs
+all_every t [] = refl
+all_every t (x ∷ xs) = rw (all_every t xs)
 
 -- ---- bad_plan
 module _ (ks ts : List ℕ) where
@@ -42,31 +28,28 @@ module _ (ks ts : List ℕ) where
   abbrev many : Bool
   many = ltb entries_max (length ks)
 
-  pub bad_nil : length ks ≡ 0 → true ≡ bad_plan ks ts
+  -- the lengths first, then the entries, as the code tests them
+  bad_split : (l k s : Bool) → l ≡ bad_lengths (length ks) (length ts) → k ≡ known → s ≡ small → (l || (not k || not s)) ≡ bad_plan ks ts
   unfolding bad_plan
-  bad_nil h = sym (or_left (empty) _ (eq-eqb (length ks) 0 h))
+  bad_split l k s d e f = rw (d, e, f) (split empty unequal many known small)
+    where
+      split : (a b c d e : Bool) → ((a || (b || c)) || (not d || not e)) ≡ (a || (b || (c || not (d && e))))
+      split true b c d e = refl
+      split false true c d e = refl
+      split false false true d e = refl
+      split false false false true e = refl
+      split false false false false e = refl
 
-  pub bad-lengths : (length ks ≡ length ts → ⊥) → true ≡ bad_plan ks ts
-  unfolding bad_plan
-  bad-lengths h = sym (or_right (empty) _ (or_left unequal _ (rw (ne_eqb (length ks) (length ts) h))))
+  module _ (l v : Bool) (e : l ≡ bad_lengths (length ks) (length ts)) where
+    pub bad_by_lengths : l ≡ true → v ≡ l → v ≡ bad_plan ks ts
+    bad_by_lengths t f = f ∙ t ∙ (rw t at (bad_split l known small e refl refl))
 
-  pub bad-long : entries_max < length ks → true ≡ bad_plan ks ts
-  unfolding bad_plan
-  bad-long h = sym (or_right (empty) _ (or_right unequal _ (or_left many _ (lt-ltb entries_max (length ks) h))))
+    module _ (k : Bool) (d : k ≡ known) (f : l ≡ false) (g : v ≡ not k) where
+      pub bad_by_sizes : v ≡ true → v ≡ bad_plan ks ts
+      bad_by_sizes h = h ∙ (rw (f, sym g ∙ h) at (bad_split l k small e d refl))
 
-  bad-entries : (known && small) ≡ false → true ≡ bad_plan ks ts
-  unfolding bad_plan
-  bad-entries h = sym (or_right (empty) _ (or_right unequal _ (or_right many _ (rw h))))
-
-  pub bad-class : (r : Bool) → r ≡ known → r ≡ false → true ≡ bad_plan ks ts
-  bad-class r e h = bad-entries (rw (sym e ∙ h))
-
-  pub bad-takes : (q r : Bool) → q ≡ known → q ≡ true → r ≡ small → r ≡ false → true ≡ bad_plan ks ts
-  bad-takes q r e t f h = bad-entries (rw (sym e ∙ t, sym f ∙ h))
-
-  pub good : (q r : Bool) → (length ks ≡ 0 → ⊥) → length ks ≡ length ts → length ks ≤ entries_max → q ≡ known → q ≡ true → r ≡ small → r ≡ true → false ≡ bad_plan ks ts
-  unfolding bad_plan
-  good q r n e l a b c d = rw (ne_eqb (length ks) 0 n, eq-eqb (length ks) (length ts) e, le-ltb entries_max (length ks) l, sym a ∙ b, sym c ∙ d)
+      pub bad_by_takes : (s : Bool) → s ≡ small → v ≡ false → not s ≡ bad_plan ks ts
+      bad_by_takes s c h = rw (f, sym g ∙ h) at (bad_split l k s e d c)
 
   pub fine : bad_plan ks ts ≡ false → Fine ks ts
   unfolding bad_plan

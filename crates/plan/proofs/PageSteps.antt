@@ -1,29 +1,40 @@
 -- The steps of `pages_for` and `sum_pages`.
-use Rattle.facts.proofs.Prelude.{ℕ, ◌+◌, ◌-◌, ◌*◌, ◌/◌, ◌^◌, ◌≤◌, ◌<◌, arith, add-one, List, ◌≡◌, refl, ap, ◌∙◌, get_or, total, below}
+use Rattle.facts.proofs.Prelude.{ℕ, ◌+◌, ◌*◌, ◌/◌, ◌^◌, ◌≤◌, ◌<◌, arith, add-one, List, ◌≡◌, refl, sym, ap, ◌∙◌, get_or, total, below, div-eq_of_lt-le}
+use Rattle.std.specs.Int.{div_ceil}
+use Rattle.std.proofs.lemmas.Grind.{div_ceil_times}
 use Rattle.classes.specs.declared.Shape.{Shape}
 use Rattle.classes.specs.Shape.{shape_of}
 use Rattle.classes.proofs.Shapes.{shape-sound}
-use Rattle.plan.specs.Plan.{class_count, pages_for, pages_of}
+use Rattle.plan.specs.Plan.{class_count, ceil, pages_for, pages_of}
 use Rattle.plan.specs.Code.{sum_max, Low}
 use Rattle.plan.proofs.Rounding.{small_is, medium-is, pages-low}
 
 -- ---- pages_for
-pub per-there : (c : ℕ) (s : Shape) → s ≡ shape_of c → 1 ≤ (s.capacity + 63) / 64
-per-there c s e = rw e (omega (arith, (shape-sound c).blocks))
+-- the library's division rounded up is the plan's
+ceils : (n d : ℕ) → 0 < d → div_ceil n d ≡ ceil n d
+ceils n d h = let z = div_ceil_times n d h in sym (div-eq_of_lt-le {k = div_ceil n d} d (omega (arith, z.1)) (omega (arith, z.0)))
 
-pub small-pages : (c t : ℕ) (s : Shape) → s ≡ shape_of c → c < 64
-    → ((t + ((s.capacity + 63) / 64 - 1)) / ((s.capacity + 63) / 64) ≡ pages_for c t) × ((t + ((s.capacity + 63) / 64 - 1)) / ((s.capacity + 63) / 64) ≤ t * 8)
-small-pages c t s e h =
-    let is : (t + (((shape_of c).capacity + 63) / 64 - 1)) / (((shape_of c).capacity + 63) / 64) ≡ pages_for c t = small_is c t h in
-    rw e (is, omega (arith, is, pages-low c t))
+module _ (c t : ℕ) (s : Shape) (e : s ≡ shape_of c) where
+  module _ (k p : ℕ) (ek : k ≡ s.capacity) (ep : p ≡ div_ceil k 64) where
+    per-is : p ≡ ((shape_of c).capacity + 63) / 64
+    per-is = ep ∙ ceils k 64 (omega arith) ∙ rw (ek, e)
 
-pub medium-pages : (c t : ℕ) (s : Shape) → s ≡ shape_of c → 64 ≤ c → c < class_count → (t * s.pages ≡ pages_for c t) × (t * s.pages ≤ t * 8)
-medium-pages c t s e h k =
-    let is : t * (shape_of c).pages ≡ pages_for c t = medium-is c t h k in
-    rw e (is, omega (arith, is, pages-low c t))
+    pub per-there : 0 < p
+    per-there = omega (arith, per-is, (shape-sound c).blocks)
 
-pub medium-fits : (c t : ℕ) (s : Shape) → s ≡ shape_of c → 64 ≤ c → c < class_count → t ≤ sum_max → t * s.pages < 2 ^ 64
-medium-fits c t s e h k l = omega (arith, medium-pages c t s e h k)
+    pub small-pages : (r : ℕ) → r ≡ div_ceil t p → c < 64 → (r ≡ pages_for c t) × (r ≤ t * 8)
+    small-pages r er h =
+        let is : r ≡ pages_for c t = er ∙ ceils t p per-there ∙ rw per-is (small_is c t h) in
+        (is, omega (arith, is, pages-low c t))
+
+  module _ (m : ℕ) (em : m ≡ s.pages) (h : 64 ≤ c) (k : c < class_count) where
+    pub medium-pages : (t * m ≡ pages_for c t) × (t * m ≤ t * 8)
+    medium-pages =
+        let is : t * m ≡ pages_for c t = rw (em, e) (medium-is c t h k) in
+        (is, omega (arith, is, pages-low c t))
+
+    pub medium-fits : t ≤ sum_max → t * m < 2 ^ 64
+    medium-fits l = omega (arith, medium-pages)
 
 -- ---- sum_pages
 pub record SumInv (ss : List ℕ) (sum c : ℕ) : Type 0 where

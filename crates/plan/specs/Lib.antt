@@ -2,3 +2,4 @@ pub mod Plan
 pub mod Fits
 pub mod Code
 pub mod Examples
+pub mod way

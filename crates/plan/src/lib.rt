@@ -5,19 +5,20 @@ mod faults;
 mod pages;
 mod sums;
 
-ghost use Rattle.plan.specs.Code.{PlanEnds};
+ghost use Rattle.std.specs.Prelude.{◌≡◌};
+ghost use Rattle.plan.specs.way.Outcome.{plan_outcome};
+
+use classes::LookupTables;
+use words::refusal::Refusal;
 
 // The total of a plan, or number 14.
-pub fn plan(sizes: &[u32], takes: &[u32], total: &mut u64) -> u32
-    ensures { PlanEnds sizes.now takes.now result total.old total.new }
+pub fn plan(sizes: &[u32], takes: &[u32]) -> Result<u64, Refusal>
+    ensures { result ≡ plan_outcome sizes.now takes.now }
 {
     if faults::bad_plan(sizes, takes) {
-        return 14;
+        return Err(Refusal::Plan);
     }
     let mut sums: [u64; 76] = [0; 76];
-    let small = classes::small_classes();
-    let medium = classes::medium_classes();
-    sums::add_takes(sizes, takes, &small, &medium, &mut sums);
-    *total = pages::sum_pages(&sums);
-    0
+    sums::add_takes(sizes, takes, &LookupTables::new(), &mut sums);
+    Ok(pages::sum_pages(&sums))
 }

@@ -5,6 +5,9 @@ ghost use Rattle.plan.specs.Code.{sum_max, Low};
 
 use classes::CLASS_COUNT;
 
+// The most blocks that a take gives of a small class.
+const BATCH: u64 = 64;
+
 // A run has at most 8 pages, so no sum over the classes wraps.
 fn pages_for(class: u32, takes: u64) -> u64
     requires class_lt_class_count { class < class_count }
@@ -13,10 +16,10 @@ fn pages_for(class: u32, takes: u64) -> u64
 {
     let shape = classes::shape_of(class);
     if class < classes::NUM_CLASSES {
-        let per = (shape.capacity as u64 + 63) / 64;
-        (takes + (per - 1)) / per
+        let per = u64::from(shape.capacity).div_ceil(BATCH);
+        takes.div_ceil(per)
     } else {
-        takes * shape.pages as u64
+        takes * u64::from(shape.pages)
     }
 }
 
@@ -24,11 +27,9 @@ pub fn sum_pages(sums: &[u64; 76]) -> u64
     requires { Low sums.now }
     ensures { result ≡ pages_of (λ c. get_or sums.now c 0) }
 {
-    let mut sum: u64 = 0;
-    let mut c = 0;
-    while c < CLASS_COUNT {
-        sum += pages_for(c, sums[c as usize]);
-        c += 1;
+    let mut pages: u64 = 0;
+    for class in 0..CLASS_COUNT {
+        pages += pages_for(class, sums[class as usize]);
     }
-    sum
+    pages
 }

@@ -25,6 +25,9 @@ use Rattle.pages.proofs.Pushes.{length_push}
 use Rattle.pages.proofs.Frames.{changes-park_run, changes-pushed}
 use Rattle.calls.specs.Release.{page_valid, row_valid, relisted, released, unlisted, park_cold, parked_in, destination_at, park_at, destination_valid, release_valid, last_step}
 use Rattle.pages.specs.Valid.{links_valid}
+use Rattle.release.specs.declared.fates.Fate.{Fate}
+use Rattle.release.specs.declared.fates.Fate.TheVariants.{Kept, Cold, Arena}
+use Rattle.release.specs.way.Fate.{fate_number}
 use Rattle.release.specs.way.Act.{settle_at, cold_virgin, ParkingPre, BackPre, SettlePre, Parked}
 use Rattle.release.proofs.Destinations.{arena-alone}
 use Rattle.release.proofs.ValidSteps.{page-room, page-carved, links-valid, head-low}
@@ -136,6 +139,11 @@ module _ (c : ℕ) (sh : Shape) (h q : ℕ) (hc : c < class_rows) (s : Sound sh)
       by true = park-kept (pushed b q is)
       by false = (relisted-changes (pushed b q is) c q hc).kept g o v
 
+arena-number : (r : Fate) → fate_number r ≡ 2 → r ≡ Arena
+arena-number Kept e = absurd (omega (arith, e))
+arena-number Cold e = absurd (omega (arith, e))
+arena-number Arena e = refl
+
 -- ---- a run whose fate is the arena is one that number 13 was tested for
 module _ (n : ℕ) (b : List ℕ) (c : ℕ) (sh : Shape) (q m : ℕ) (e : release_valid n b c sh m q ≡ true) where
   pub valid-low : get b (arena frontier) ≤ n
@@ -189,8 +197,8 @@ module _ (n : ℕ) (b : List ℕ) (c : ℕ) (sh : Shape) (h q : ℕ) (ws : List 
           valid-destination n b c sh q (length ws) a.valid (omega (arith, eqb-true (get d (page carved q)) (get d (page free q)) x, u, v, length-map ws (index_of sh q))) (ap is_arena (sym s) ∙ g)
       by d z false x y = absurd (omega (arith, y))
 
-  module _ (r : ℕ) (b' : List ℕ) (p : Parked r b' (settle_at b c sh h q (map (index_of sh q) ws))) where
-    pub give-pre : SettlePre n b c sh q ws → r ≡ 2 → length b' ≡ length b → GiveIn b' n q sh.pages
+  module _ (r : Fate) (b' : List ℕ) (p : Parked (fate_number r) b' (settle_at b c sh h q (map (index_of sh q) ws))) where
+    pub give-pre : SettlePre n b c sh q ws → r ≡ Arena → length b' ≡ length b → GiveIn b' n q sh.pages
     give-pre a x k =
         let same : (g : Field) → ok g ≡ true → not_arena g ≡ false → moves g ≡ false → on_stack g ≡ false → get (settle_at b c sh h q (map (index_of sh q) ws)).book g ≡ get b g
         = λ g o u v w. settle-kept c sh h q a.class.known a.class.sound g o u v w b (map (index_of sh q) ws) (slots-left b c sh h q ws (back-pre a)) in
@@ -198,12 +206,12 @@ module _ (n : ℕ) (b : List ℕ) (c : ℕ) (sh : Shape) (h q : ℕ) (ws : List 
           long = omega (arith, a.class.long);
           small = a.class.few;
           inside = a.inside;
-          valid = rw p.left (give_kept n b _ (λ j. same (arena j) refl refl refl refl) (λ f j o. same (hole f j) o refl refl refl) sh.pages ∙ gives-valid a (sym p.fate ∙ x));
+          valid = rw p.left (give_kept n b _ (λ j. same (arena j) refl refl refl refl) (λ f j o. same (hole f j) o refl refl refl) sh.pages ∙ gives-valid a (sym p.fate ∙ ap fate_number x));
         }
 
-    pub given-away : (b'' : List ℕ) → r ≡ 2 → b'' ≡ given b' q sh.pages → Parked r b'' (last_step sh q (settle_at b c sh h q (map (index_of sh q) ws)))
+    pub given-away : (b'' : List ℕ) → r ≡ Arena → b'' ≡ given b' q sh.pages → Parked (fate_number r) b'' (last_step sh q (settle_at b c sh h q (map (index_of sh q) ws)))
     given-away b'' x e =
-        rw (eq-eqb (settle_at b c sh h q (map (index_of sh q) ws)).fate 2 (sym p.fate ∙ x)) (record { fate = p.fate; left = e ∙ ap (λ d. given d q sh.pages) p.left })
+        rw (eq-eqb (settle_at b c sh h q (map (index_of sh q) ws)).fate 2 (sym p.fate ∙ ap fate_number x)) (record { fate = p.fate; left = e ∙ ap (λ d. given d q sh.pages) p.left })
 
-    pub kept_here : (r ≡ 2 → ⊥) → Parked r b' (last_step sh q (settle_at b c sh h q (map (index_of sh q) ws)))
-    kept_here x = rw (ne_eqb (settle_at b c sh h q (map (index_of sh q) ws)).fate 2 (λ e. x (p.fate ∙ e))) p
+    pub kept_here : (r ≡ Arena → ⊥) → Parked (fate_number r) b' (last_step sh q (settle_at b c sh h q (map (index_of sh q) ws)))
+    kept_here x = rw (ne_eqb (settle_at b c sh h q (map (index_of sh q) ws)).fate 2 (λ e. x (arena-number r (p.fate ∙ e)))) p

@@ -1,6 +1,7 @@
 -- The ways out of `block_at` and `block_in`, and what a block tells.
 use Rattle.facts.proofs.Prelude.{ℕ, zero, suc, ◌+◌, ◌-◌, ◌*◌, ◌/◌, ◌%◌, ◌^◌, ◌≤◌, ◌<◌, arith, div-add-mod', mod-eq_of_lt, mul-le-mul_right, lt_of_mul-lt-mul_right}
 use Rattle.facts.proofs.Prelude.{Bool, true, false, ◌&&◌, and-false, ◌≡◌, refl, sym, ap, ◌∙◌, eqb, le-leb, lt-ltb, eq-eqb, ne_eqb, eqb-true}
+use Rattle.std.specs.Prelude.{Some, None}
 use Rattle.std.proofs.Common.{w32, w64, Fits}
 use lib.Pow.{low}
 use Rattle.words.specs.Word.{kind_of, granule_of}
@@ -12,7 +13,6 @@ use Rattle.model.specs.Page.{word_of}
 use Rattle.model.specs.Release.{of_kind}
 use Rattle.pages.specs.Stack.{blocks_from, index_of, is_block}
 use Rattle.lists.proofs.InverseLaws.{behind_point, past_point, narrow, product-fits, divides, quotient_fits}
-use Rattle.release.specs.declared.Found.TheVariants.{At, Nothing}
 use Rattle.release.specs.way.Blocks.{found, block_at, block_in}
 use Rattle.release.specs.way.MarkPre.{Near}
 use Rattle.release.proofs.Bits.{from_block, at_block, below_capacity}
@@ -47,10 +47,10 @@ module _ (sh : Shape) (s : Sound sh) (x : ℕ) (l : x < sh.capacity * sh.block) 
       omega (arith, rw s.inverts at h)
 
 module _ (sh : Shape) (q w v g x : ℕ) (s : Sound sh) (below : q < max_pages) (d : v ≡ w) (e : g ≡ granule_of v) (u : (x + (q * 4096 + sh.header)) % 2 ^ 64 ≡ g) where
-  pub past-blocks : x < 2 ^ 64 → sh.capacity * sh.block ≤ x → Nothing ≡ block_at sh q w
+  pub past-blocks : x < 2 ^ 64 → sh.capacity * sh.block ≤ x → None ≡ block_at sh q w
   past-blocks f h = by (is_block sh q w) refl
     where
-      by : (t : Bool) → is_block sh q w ≡ t → Nothing ≡ found t (index_of sh q w)
+      by : (t : Bool) → is_block sh q w ≡ t → None ≡ found t (index_of sh q w)
       by false z = refl
       by true z =
           let k : (index_of sh q w + 1) * sh.block ≤ sh.capacity * sh.block = mul-le-mul_right sh.block (omega (arith, below_capacity sh q w z)) in
@@ -64,27 +64,27 @@ module _ (sh : Shape) (q w v g x : ℕ) (s : Sound sh) (below : q < max_pages) (
     unfolding index_of
     index_of-it = let z : granule_of w - blocks_from sh q ≡ x = omega (arith, behind-first) in ap (λ t. t / sh.block) z
 
-    pub between-blocks : sh.inverse ≤ x * sh.inverse % 2 ^ 32 → Nothing ≡ block_at sh q w
+    pub between-blocks : sh.inverse ≤ x * sh.inverse % 2 ^ 32 → None ≡ block_at sh q w
     unfolding is_block
     between-blocks h =
         let z : (index_of sh q w * sh.block ≡ granule_of w - blocks_from sh q → ⊥) = λ y. part-block sh s x l h (ap (λ t. t * sh.block) (sym index_of-it) ∙ y ∙ omega (arith, behind-first)) in
         simp (ne_eqb _ _ z, and-false)
 
-    pub a_block : x * sh.inverse % 2 ^ 32 < sh.inverse → At (x * sh.inverse / 2 ^ 32) ≡ block_at sh q w
+    pub a_block : x * sh.inverse % 2 ^ 32 < sh.inverse → Some (x * sh.inverse / 2 ^ 32) ≡ block_at sh q w
     unfolding is_block
     a_block h =
         let k : x / sh.block * sh.block ≡ x = whole-block sh s x l h in
         let c : x / sh.block < sh.capacity = lt_of_mul-lt-mul_right sh.block (rw k l) in
         let z : x / sh.block * sh.block ≡ granule_of w - blocks_from sh q = omega (arith, behind-first) in
         let f : blocks_from sh q ≤ granule_of w = omega (arith, behind-first) in
-        rw (index_of-it, le-leb _ _ f, eq-eqb _ _ z, lt-ltb _ _ c) (ap At (index_is sh s x l))
+        rw (index_of-it, le-leb _ _ f, eq-eqb _ _ z, lt-ltb _ _ c) (ap Some (index_is sh s x l))
 
 -- ---- what the block tells
-pub none_found : (t : Bool) (i : ℕ) → Nothing ≡ found t i → t ≡ false
+pub none_found : (t : Bool) (i : ℕ) → None ≡ found t i → t ≡ false
 none_found true i e = let z : ◌≡◌ {A = ℕ} 0 1 = cc in absurd (omega arith)
 none_found false i e = refl
 
-pub found_at : (t : Bool) (i j : ℕ) → At j ≡ found t i → (t ≡ true) × (j ≡ i)
+pub found_at : (t : Bool) (i j : ℕ) → Some j ≡ found t i → (t ≡ true) × (j ≡ i)
 found_at true i j e = (refl, cc)
 found_at false i j e = let z : ◌≡◌ {A = ℕ} 0 1 = cc in absurd (omega arith)
 
@@ -94,14 +94,14 @@ module _ (sh : Shape) (q base span w x : ℕ) (a : Near sh q base span) (u : (x 
   unfolding word_of
   start_is = a.first ∙ omega arith
 
-  none_in : (of_kind sh.kind w && is_block sh q w) ≡ false → Nothing ≡ block_in sh q w
+  none_in : (of_kind sh.kind w && is_block sh q w) ≡ false → None ≡ block_in sh q w
   none_in h = rw h
 
-  pub outside : x < 2 ^ 64 → span ≤ x → Nothing ≡ block_in sh q w
+  pub outside : x < 2 ^ 64 → span ≤ x → None ≡ block_in sh q w
   unfolding of_kind
   outside f h = by (eqb (kind_of w) sh.kind) (is_block sh q w) refl refl
     where
-      by : (t v : Bool) → eqb (kind_of w) sh.kind ≡ t → is_block sh q w ≡ v → Nothing ≡ found (t && v) (index_of sh q w)
+      by : (t v : Bool) → eqb (kind_of w) sh.kind ≡ t → is_block sh q w ≡ v → None ≡ found (t && v) (index_of sh q w)
       by false v y z = refl
       by true false y z = refl
       by true true y z =
@@ -135,11 +135,11 @@ module _ (sh : Shape) (q base span w x : ℕ) (a : Near sh q base span) (u : (x 
     pub near-index : Fits w32 (x * sh.inverse / 2 ^ 32)
     near-index = index-fits sh a.sound x granules
 
-    pub inside-none : sh.inverse ≤ x * sh.inverse % 2 ^ 32 → Nothing ≡ block_in sh q w
+    pub inside-none : sh.inverse ≤ x * sh.inverse % 2 ^ 32 → None ≡ block_in sh q w
     inside-none h =
         let z = none_found (is_block sh q w) (index_of sh q w) (between-blocks sh q w w (granule_of w) x a.sound starts-low refl refl granule-is granules h) in
         none_in (simp (z, and-false))
 
-    pub inside-at : x * sh.inverse % 2 ^ 32 < sh.inverse → At (x * sh.inverse / 2 ^ 32) ≡ block_in sh q w
+    pub inside-at : x * sh.inverse % 2 ^ 32 < sh.inverse → Some (x * sh.inverse / 2 ^ 32) ≡ block_in sh q w
     inside-at h =
         rw kind-is (a_block sh q w w (granule_of w) x a.sound starts-low refl refl granule-is granules h)

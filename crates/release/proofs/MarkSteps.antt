@@ -1,6 +1,7 @@
 -- The ways out of `mark_one`, and the loops of `mark_few` and `mark_by`.
 use Rattle.facts.proofs.Prelude.{ℕ, suc, ◌+◌, ◌*◌, ◌/◌, ◌≤◌, ◌<◌, arith, le_refl, add-one, Bool, true, false, cond, ◌&&◌}
 use Rattle.facts.proofs.Prelude.{and_assoc, List, ◌≡◌, refl, sym, ap, ◌∙◌, length, get_or, drop, drop-cons, and_right, drop_past}
+use Rattle.std.specs.Prelude.{Some, None}
 use native.Mathlib.Decide.{ℕ_discrete, dec_le}
 use Rattle.std.proofs.Common.{w32, Fits}
 use Rattle.classes.specs.declared.Shape.{Shape}
@@ -8,8 +9,6 @@ use Rattle.classes.specs.way.Sound.{Sound}
 use Rattle.fields.specs.Field.{mark, words, Has}
 use Rattle.model.specs.Release.{of_kind}
 use Rattle.pages.specs.Stack.{index_of, is_block}
-use Rattle.release.specs.declared.Found.{Found}
-use Rattle.release.specs.declared.Found.TheVariants.{At, Nothing}
 use Rattle.release.specs.way.Blocks.{block_in}
 use Rattle.release.specs.way.Marks.{set_mark, fresh_at, marked_in, fresh_in, fresh_count, fresh_book, count_by, book_by}
 use Rattle.release.specs.way.MarkPre.{MarkedBlock, MarkedOne, MarkedIn, MarkedTo, Reaches, Alone}
@@ -22,15 +21,15 @@ module _ (b : List ℕ) (sh : Shape) (q w : ℕ) where
   unfolding fresh_in
   fresh_in_lem = sym (and_assoc (of_kind sh.kind w) (is_block sh q w) _)
 
-  pub no_block : (f : Found) → f ≡ block_in sh q w → f ≡ Nothing → MarkedOne false b b sh q w
-  no_block f e h =
-      let z = none_found (of_kind sh.kind w && is_block sh q w) (index_of sh q w) (sym h ∙ e) in
+  pub no_block : None ≡ block_in sh q w → MarkedOne false b b sh q w
+  no_block h =
+      let z = none_found (of_kind sh.kind w && is_block sh q w) (index_of sh q w) h in
       let o : fresh_in b sh q w ≡ false = fresh_in_lem ∙ rw z in
       record { answer = sym o; left = rw o }
 
-  module _ (f : Found) (i : ℕ) (e : f ≡ block_in sh q w) (h : f ≡ At i) where
+  module _ (i : ℕ) (h : Some i ≡ block_in sh q w) where
     pub block_here : ((of_kind sh.kind w && is_block sh q w) ≡ true) × (i ≡ index_of sh q w)
-    block_here = found_at (of_kind sh.kind w && is_block sh q w) (index_of sh q w) i (sym h ∙ e)
+    block_here = found_at (of_kind sh.kind w && is_block sh q w) (index_of sh q w) i h
 
     index-low : Sound sh → i < 4096
     index-low s = omega (arith, below_capacity sh q w (and_right (of_kind sh.kind w) _ block_here.0), block_here.1, s.few)
@@ -67,7 +66,7 @@ module _ (b : List ℕ) (sh : Shape) (q : ℕ) (ws : List ℕ) where
   ended : (from i : ℕ) (b₀ : List ℕ) → Reaches i b b₀ sh q ws from → (fresh_count b sh q (drop i ws) ≡ 0) × (fresh_book b sh q (drop i ws) ≡ b) → MarkedIn i b b₀ sh q ws from
   ended from i b₀ v z = record { answer = omega (arith, v.answer, z.0); left = sym z.1 ∙ v.left }
 
-  no_block-here : (i : ℕ) → block_in sh q (get_or ws i 0) ≡ Nothing → fresh_in b sh q (get_or ws i 0) ≡ false
+  no_block-here : (i : ℕ) → block_in sh q (get_or ws i 0) ≡ None → fresh_in b sh q (get_or ws i 0) ≡ false
   no_block-here i h =
       let w = get_or ws i 0 in
       fresh_in_lem b sh q w ∙ rw (none_found (of_kind sh.kind w && is_block sh q w) (index_of sh q w) (sym h))

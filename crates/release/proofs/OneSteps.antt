@@ -1,6 +1,7 @@
 -- The ways out of a release of one block that leaves others of its run out.
 use Rattle.facts.proofs.Prelude.{ℕ, ◌+◌, ◌-◌, ◌*◌, ◌/◌, ◌≤◌, ◌<◌, arith, Bool, true, false, cond, not, ◌&&◌, and-false, List, [], ◌∷◌, ◌≡◌, refl}
 use Rattle.facts.proofs.Prelude.{sym, ap, ◌∙◌, eqb, length, get_or, eqb-true, eqb-false, lt-ltb, eq-eqb, ne_eqb, not-true, and_left, and_right}
+use Rattle.std.specs.Prelude.{Some, None}
 use Rattle.words.specs.Limits.{class_rows}
 use Rattle.classes.specs.declared.Shape.{Shape}
 use Rattle.classes.specs.Shape.{shape_of}
@@ -15,10 +16,7 @@ use Rattle.pages.proofs.SetOuts.{set_outs-changes}
 use Rattle.calls.specs.Out.{start_of, in_run_of, out_in, out_at, clean, unmarked, out_fault}
 use Rattle.calls.proofs.Out.{passes}
 use Rattle.calls.specs.Release.{page_valid, row_valid, destination_valid, release_valid, relisted, release_blocks}
-use Rattle.release.specs.declared.Found.{Found}
-use Rattle.release.specs.declared.Found.TheVariants.{At, Nothing}
-use Rattle.release.specs.declared.Released.{Released}
-use Rattle.release.specs.declared.Released.TheVariants.{Fate}
+use Rattle.release.specs.Answer.{Released, Fate}
 use Rattle.release.specs.way.Pre.{ClassPre}
 use Rattle.release.specs.way.Blocks.{block_in, run_at}
 use Rattle.release.specs.way.Valid.{ValidPre}
@@ -169,16 +167,15 @@ module _ (n : ℕ) (b : List ℕ) (c : ℕ) (sh : Shape) (q w : ℕ) where
     block-pre : (i : ℕ) → is_block sh q w ≡ true → i ≡ index_of sh q w → BackPre n b c sh q i
     block-pre i o e = record { class = a.class; inside = run_inside; bit = omega (arith, below_capacity sh q w o, e, a.class.sound.few) }
 
-  module _ (f : Found) (e : f ≡ block_in sh q w) where
-    pub one-no_block : f ≡ Nothing → OneIn false b n b c sh q w
-    one-no_block h = let z = none_found (of_kind sh.kind w && is_block sh q w) (index_of sh q w) (sym h ∙ e) in record { answer = rw z; left = rw z }
+  pub one-no_block : None ≡ block_in sh q w → OneIn false b n b c sh q w
+  one-no_block h = let z = none_found (of_kind sh.kind w && is_block sh q w) (index_of sh q w) h in record { answer = rw z; left = rw z }
 
-    module _ (i : ℕ) (h : f ≡ At i) where
-      pub one_back_pre : RunPre n b c sh q (w ∷ []) → BackPre n b c sh q i
-      one_back_pre a = let y = block_here b sh q w f i e h in block-pre a i (and_right (of_kind sh.kind w) _ y.0) y.1
+  module _ (i : ℕ) (h : Some i ≡ block_in sh q w) where
+    pub one_back_pre : RunPre n b c sh q (w ∷ []) → BackPre n b c sh q i
+    one_back_pre a = let y = block_here b sh q w i h in block-pre a i (and_right (of_kind sh.kind w) _ y.0) y.1
 
-      pub one-back : (r : Bool) (b' : List ℕ) → BackOne r b' n b c sh q i → OneIn r b' n b c sh q w
-      one-back r b' o = let y = block_here b sh q w f i e h in record { answer = rw (y.0, ← y.1) o.answer; left = rw (y.0, ← y.1) o.left }
+    pub one-back : (r : Bool) (b' : List ℕ) → BackOne r b' n b c sh q i → OneIn r b' n b c sh q w
+    one-back r b' o = let y = block_here b sh q w i h in record { answer = rw (y.0, ← y.1) o.answer; left = rw (y.0, ← y.1) o.left }
 
   -- ---- what it comes to: the release of a list of one
   module _ (a : RunPre n b c sh q (w ∷ [])) (u : one_in n b c sh q w ≡ true) where
@@ -254,20 +251,20 @@ module _ (n : ℕ) (b : List ℕ) (c : ℕ) (sh : Shape) (z : sh ≡ shape_of c)
   pub shape-pre : ClassPre n b c (shape_of c) → ClassPre n b c sh
   shape-pre a = rw z a
 
-  module _ (w : ℕ) (f : Found) (e : f ≡ run_at n b sh c w) where
-    pub one-no_run : f ≡ Nothing → OneBack false b n b c (shape_of c) w
+  module _ (w : ℕ) where
+    pub one-no_run : None ≡ run_at n b sh c w → OneBack false b n b c (shape_of c) w
     one-no_run h =
-        let i = none_found (in_run_of n b sh c w) (start_of b w) (sym h ∙ e) in
+        let i = none_found (in_run_of n b sh c w) (start_of b w) h in
         let x : OneBack false b n b c sh w = record { answer = rw i; left = rw i } in
         rw z at x
 
-    module _ (q : ℕ) (h : f ≡ At q) where
+    module _ (q : ℕ) (h : Some q ≡ run_at n b sh c w) where
       pub in_run-pre : ClassPre n b c (shape_of c) → RunPre n b c sh q (w ∷ [])
-      in_run-pre a = run-pre n b c sh (w ∷ []) f q (record { class = rw z a; some = refl }) e h
+      in_run-pre a = run-pre n b c sh (w ∷ []) q (record { class = rw z a; some = refl }) h
 
       pub one_of-class : (r : Bool) (b' : List ℕ) → OneIn r b' n b c sh q w → OneBack r b' n b c (shape_of c) w
       one_of-class r b' o =
-          let i = found_at (in_run_of n b sh c w) (start_of b w) q (sym h ∙ e) in
+          let i = found_at (in_run_of n b sh c w) (start_of b w) q h in
           let x : OneBack r b' n b c sh w = record { answer = rw (i.0, ← i.1) o.answer; left = rw (i.0, ← i.1) o.left } in
           rw z at x
 

@@ -4,7 +4,12 @@
 --     finished          13's last test, and the act
 use Rattle.facts.proofs.Prelude.{ℕ, zero, suc, ◌+◌, ◌*◌, ◌^◌, ◌≤◌, ◌<◌, arith, Bool, true, false, cond, List, [], ◌∷◌, map, ◌≡◌, refl, sym, ap, ◌∙◌, eqb}
 use Rattle.facts.proofs.Prelude.{ltb, length, get_or, eqb-true, le-leb, lt-ltb, ltb-true, eq-eqb, ne_eqb, is_nil, every, and_left, and_right, every_made}
+use Rattle.std.specs.Prelude.{Option, Some, None, Result, Ok, Err}
 use Rattle.words.specs.Limits.{class_rows}
+use Rattle.words.specs.declared.refusal.Refusal.{Refusal}
+use Rattle.words.specs.declared.refusal.Refusal.TheVariants.{WrongKind, OtherPage}
+use Rattle.words.specs.Refusal.{number_of}
+use Rattle.words.proofs.Refusals.{positive}
 use Rattle.classes.specs.declared.Shape.{Shape}
 use Rattle.classes.specs.way.Sound.{Sound}
 use Rattle.fields.specs.Field.{arena, class, page, format, frontier, partial, empty, empty_count, cold, cold_count, first, next, prev, free, carved, listed, virgin, get, words, Has, hole, empty_limit, cold_limit}
@@ -24,12 +29,8 @@ use Rattle.calls.specs.Out.{start_of, in_run_of, out_in, out_at, out_fault}
 use Rattle.calls.proofs.Out.{passed}
 use Rattle.calls.specs.Release as Heap
 use Rattle.calls.specs.Release.{first_of, page_valid, row_valid, destination_valid, release_valid, relisted, released, park_as, park_at, destination_at, unlisted, give_back_at, last_step, release_blocks}
-use Rattle.release.specs.declared.Found.{Found}
-use Rattle.release.specs.declared.Found.TheVariants.{At, Nothing}
-use Rattle.release.specs.declared.Released.{Released}
-use Rattle.release.specs.declared.Released.TheVariants.{Refused, Fate}
-use Rattle.release.specs.declared.Verdict.{Verdict}
-use Rattle.release.specs.declared.Verdict.TheVariants.{No, In}
+use Rattle.release.specs.Answer.{Released, Refused, Fate}
+use Rattle.release.specs.declared.Marked.{Marked}
 use Rattle.release.specs.way.Pre.{ClassPre, StartPre, TakePre}
 use Rattle.release.specs.way.Blocks.{run_at}
 use Rattle.release.specs.way.Valid.{ValidPre}
@@ -188,11 +189,11 @@ module _ (n : ℕ) (b : List ℕ) (c : ℕ) (sh : Shape) (ws : List ℕ) (a : Pa
     start_is = rw (first-is ws a.some, ← e) (sym y)
 
     module _ (t : Bool) (x : t ≡ every (λ w. eqb (start_of b w) q) ws) where
-      pub other-run : t ≡ false → Prepared (No 11) b n b c sh ws
+      pub other-run : t ≡ false → Prepared (Err OtherPage) b n b c sh ws
       unfolding Prepared
       other-run d h = two_runs n b c sh h ws a.some a.kinds a.passed q start_is (sym x ∙ d)
 
-      pub this_run : t ≡ true → Prepared (In q 0) b n b c sh ws
+      pub this_run : t ≡ true → Prepared (Ok (record { run = q; marks = 0 })) b n b c sh ws
       unfolding Prepared
       this_run d = not_marked_at n b c sh ws a q start_is (sym x ∙ d)
 
@@ -252,7 +253,7 @@ module _ (n : ℕ) (b : List ℕ) (c : ℕ) (sh : Shape) (h : ℕ) where
 
 module _ (n : ℕ) (b : List ℕ) (c : ℕ) (sh : Shape) where
   module _ (ws : List ℕ) (a : ListPre n b c sh ws) (t : Bool) (k : t ≡ every (of_kind sh.kind) ws) where
-    pub bad_kind : t ≡ false → Prepared (No 9) b n b c sh ws
+    pub bad_kind : t ≡ false → Prepared (Err WrongKind) b n b c sh ws
     unfolding Prepared
     bad_kind x h = wrong-kind n b c sh h ws a.some (sym k ∙ x)
 
@@ -260,43 +261,38 @@ module _ (n : ℕ) (b : List ℕ) (c : ℕ) (sh : Shape) where
       pub fault-pre : FaultPre n b c sh ws
       fault-pre = record { class = a.class; kinds = sym k ∙ x }
 
-      module _ (r : ℕ) (b' : List ℕ) (f : Faulted r b' n b c sh ws) where
-        pub faulted : (r ≡ 0 → ⊥) → Prepared (No r) b' n b c sh ws
-        unfolding Prepared
-        faulted d h = at-fault n b c sh h ws a.some (sym k ∙ x) r b' f.answer d f.left
+      pub faulted : (e : Refusal) (b' : List ℕ) → Faulted (number_of e) b' n b c sh ws → Prepared (Err e) b' n b c sh ws
+      unfolding Prepared
+      faulted e b' f h = at-fault n b c sh h ws a.some (sym k ∙ x) (number_of e) b' f.answer (λ z. omega (arith, z, positive e)) f.left
 
-        pub passed-pre : r ≡ 0 → PassedPre n b' c sh ws
-        passed-pre d = rw f.left (record { class = a.class; some = a.some; kinds = sym k ∙ x; passed = sym f.answer ∙ d })
+      module _ (b' : List ℕ) (f : Faulted 0 b' n b c sh ws) where
+        pub passed-pre : PassedPre n b' c sh ws
+        passed-pre = rw f.left (record { class = a.class; some = a.some; kinds = sym k ∙ x; passed = sym f.answer })
 
-        pub passed_on : (o : Verdict) → Prepared o b' n b' c sh ws → Prepared o b' n b c sh ws
+        pub passed_on : (o : Result Marked Refusal) → Prepared o b' n b' c sh ws → Prepared o b' n b c sh ws
         passed_on o i = rw f.left (rw f.left at i)
 
-  pub told-no : (h : ℕ) (ws : List ℕ) (o : Verdict) (k : ℕ) (b' : List ℕ) → Prepared o b' n b c sh ws → o ≡ No k → Answered (Refused k) b' (release_blocks n b c sh h ws)
+  pub told-no : (h : ℕ) (ws : List ℕ) (e : Refusal) (b' : List ℕ) → Prepared (Err e) b' n b c sh ws → Answered (Refused (number_of e)) b' (release_blocks n b c sh h ws)
   unfolding Prepared
-  told-no h ws (No j) k b' p e = let z : j ≡ k = cc in rw (← z) (p h)
-  told-no h ws (In q m) k b' p e = let z : ◌≡◌ {A = ℕ} 0 1 = cc in absurd (omega arith)
+  told-no h ws e b' p = p h
 
-  told_in : (ws : List ℕ) (o : Verdict) (q m : ℕ) (b' : List ℕ) → Prepared o b' n b c sh ws → o ≡ In q m → PreparedAt q m b' n b c sh ws
-  unfolding Prepared
-  told_in ws (No j) q m b' p e = let z : ◌≡◌ {A = ℕ} 0 1 = cc in absurd (omega arith)
-  told_in ws (In r l) q m b' p e = let x : r ≡ q = cc in let y : l ≡ m = cc in rw (← x, ← y) p
+  module _ (ws : List ℕ) (r : Marked) (b' : List ℕ) (p : Prepared (Ok r) b' n b c sh ws) where
+    prepared_in : PreparedAt r.run r.marks b' n b c sh ws
+    unfolding Prepared
+    prepared_in = p
 
-  module _ (ws : List ℕ) (o : Verdict) (q m : ℕ) (b' : List ℕ) (p : Prepared o b' n b c sh ws) (e : o ≡ In q m) where
-    prepared_in : PreparedAt q m b' n b c sh ws
-    prepared_in = told_in ws o q m b' p e
+    pub finish-told : MarkedPre n b' c sh r.run r.marks ws
+    finish-told = finish-pre n b c sh ws r.run r.marks b' prepared_in
 
-    pub finish-told : MarkedPre n b' c sh q m ws
-    finish-told = finish-pre n b c sh ws q m b' prepared_in
-
-    pub finished-told : (h : ℕ) (r : Released) (b'' : List ℕ) → Finished r b'' n b' c sh h q m ws → Answered r b'' (release_blocks n b c sh h ws)
-    finished-told = finished n b c sh ws q m b' prepared_in
+    pub finished-told : (h : ℕ) (s : Released) (b'' : List ℕ) → Finished s b'' n b' c sh h r.run r.marks ws → Answered s b'' (release_blocks n b c sh h ws)
+    finished-told = finished n b c sh ws r.run r.marks b' prepared_in
 
   first_pre_run : (ws : List ℕ) (q : ℕ) → ListPre n b c sh ws → in_run_of n b sh c (get_or ws 0 0) ≡ true → q ≡ start_of b (get_or ws 0 0) → RunPre n b c sh q ws
   first_pre_run ws q a i e =
       record { class = a.class; some = a.some; run = rw e (run-whole n b c sh (get_or ws 0 0) i); start = ap (start_of b) (first-is ws a.some) ∙ sym e }
 
-  pub run-pre : (ws : List ℕ) (f : Found) (q : ℕ) → ListPre n b c sh ws → f ≡ run_at n b sh c (get_or ws 0 0) → f ≡ At q → RunPre n b c sh q ws
-  run-pre ws f q a e y = let z = found_at (in_run_of n b sh c (get_or ws 0 0)) (start_of b (get_or ws 0 0)) q (sym y ∙ e) in first_pre_run ws q a z.0 z.1
+  pub run-pre : (ws : List ℕ) (q : ℕ) → ListPre n b c sh ws → Some q ≡ run_at n b sh c (get_or ws 0 0) → RunPre n b c sh q ws
+  run-pre ws q a y = let z = found_at (in_run_of n b sh c (get_or ws 0 0)) (start_of b (get_or ws 0 0)) q y in first_pre_run ws q a z.0 z.1
 
 pub only_one : (ws : List ℕ) → length ws ≡ 1 → ws ≡ get_or ws 0 0 ∷ []
 only_one [] l = absurd (omega arith)
@@ -392,44 +388,43 @@ module _ (n : ℕ) (b : List ℕ) (c : ℕ) (sh : Shape) (q : ℕ) (ws : List �
 
 -- ---- `try_list`, and what was tried
 module _ (n : ℕ) (b : List ℕ) (c : ℕ) (sh : Shape) (ws : List ℕ) where
-  module _ (f : Found) (e : f ≡ run_at n b sh c (get_or ws 0 0)) where
-    pub try_no_run : f ≡ Nothing → Attempted Nothing b n b c sh ws
-    try_no_run h = let z = none_found (in_run_of n b sh c (get_or ws 0 0)) (start_of b (get_or ws 0 0)) (sym h ∙ e) in record { answer = rw z; left = rw z }
+  pub try_no_run : None ≡ run_at n b sh c (get_or ws 0 0) → Attempted None b n b c sh ws
+  try_no_run h = let z = none_found (in_run_of n b sh c (get_or ws 0 0)) (start_of b (get_or ws 0 0)) h in record { answer = rw z; left = rw z }
 
-    module _ (q : ℕ) (h : f ≡ At q) where
-      first_run : (in_run_of n b sh c (get_or ws 0 0) ≡ true) × (q ≡ start_of b (get_or ws 0 0))
-      first_run = found_at (in_run_of n b sh c (get_or ws 0 0)) (start_of b (get_or ws 0 0)) q (sym h ∙ e)
+  module _ (q : ℕ) (h : Some q ≡ run_at n b sh c (get_or ws 0 0)) where
+    first_run : (in_run_of n b sh c (get_or ws 0 0) ≡ true) × (q ≡ start_of b (get_or ws 0 0))
+    first_run = found_at (in_run_of n b sh c (get_or ws 0 0)) (start_of b (get_or ws 0 0)) q h
 
-      pub try_pre : ListPre n b c sh ws → FieldPre b sh q
-      try_pre a = field_pre n b c sh q ws (run-pre n b c sh ws f q a e h)
+    pub try_pre : ListPre n b c sh ws → FieldPre b sh q
+    try_pre a = field_pre n b c sh q ws (run-pre n b c sh ws q a h)
 
-      module _ (r : Bool) (b' : List ℕ) (m : MarkedAll r b' b sh q ws) where
-        pub try_all : r ≡ true → Attempted (At q) b' n b c sh ws
-        try_all t = record { answer = rw (first_run.0, ← first_run.1, sym m.answer ∙ t); left = rw (first_run.0, ← first_run.1) m.left }
+    module _ (r : Bool) (b' : List ℕ) (m : MarkedAll r b' b sh q ws) where
+      pub try_all : r ≡ true → Attempted (Some q) b' n b c sh ws
+      try_all t = record { answer = rw (first_run.0, ← first_run.1, sym m.answer ∙ t); left = rw (first_run.0, ← first_run.1) m.left }
 
-        pub try_not : r ≡ false → Attempted Nothing b' n b c sh ws
-        try_not t = record { answer = rw (first_run.0, ← first_run.1, sym m.answer ∙ t); left = rw (first_run.0, ← first_run.1) m.left }
+      pub try_not : r ≡ false → Attempted None b' n b c sh ws
+      try_not t = record { answer = rw (first_run.0, ← first_run.1, sym m.answer ∙ t); left = rw (first_run.0, ← first_run.1) m.left }
 
-  module _ (f : Found) (b' : List ℕ) (t : Attempted f b' n b c sh ws) where
-    left_as : (u : Bool) → tried n b c sh ws ≡ u → b' ≡ cond u (fresh_book b sh (start_of b (get_or ws 0 0)) ws) b
-    left_as u z = t.left ∙ ap (λ y. cond y (fresh_book b sh (start_of b (get_or ws 0 0)) ws) b) z
+  module _ (b' : List ℕ) where
+    left_as : (f : Option ℕ) → Attempted f b' n b c sh ws → (u : Bool) → tried n b c sh ws ≡ u → b' ≡ cond u (fresh_book b sh (start_of b (get_or ws 0 0)) ws) b
+    left_as f t u z = t.left ∙ ap (λ y. cond y (fresh_book b sh (start_of b (get_or ws 0 0)) ws) b) z
 
-    as_it_was : f ≡ Nothing → b' ≡ b
-    as_it_was e = left_as false (none_found (tried n b c sh ws) (start_of b (get_or ws 0 0)) (sym e ∙ t.answer))
+    as_it_was : Attempted None b' n b c sh ws → b' ≡ b
+    as_it_was t = left_as None t false (none_found (tried n b c sh ws) (start_of b (get_or ws 0 0)) t.answer)
 
-    pub test_pre : f ≡ Nothing → ListPre n b c sh ws → ListPre n b' c sh ws
-    test_pre e a = rw (as_it_was e) a
+    pub test_pre : Attempted None b' n b c sh ws → ListPre n b c sh ws → ListPre n b' c sh ws
+    test_pre t a = rw (as_it_was t) a
 
-    pub tested : f ≡ Nothing → (r : Verdict) (b'' : List ℕ) → Prepared r b'' n b' c sh ws → Prepared r b'' n b c sh ws
-    tested e r b'' i = rw (as_it_was e) at i
+    pub tested : Attempted None b' n b c sh ws → (r : Result Marked Refusal) (b'' : List ℕ) → Prepared r b'' n b' c sh ws → Prepared r b'' n b c sh ws
+    tested t r b'' i = rw (as_it_was t) at i
 
-    pub ready_at-once : (q m : ℕ) → f ≡ At q → m ≡ out_words sh → ListPre n b c sh ws → Prepared (In q m) b' n b c sh ws
+    pub ready_at-once : (q m : ℕ) → Attempted (Some q) b' n b c sh ws → m ≡ out_words sh → ListPre n b c sh ws → Prepared (Ok (record { run = q; marks = m })) b' n b c sh ws
     unfolding Prepared
-    ready_at-once q m e k a =
-        let z = found_at (tried n b c sh ws) (start_of b (get_or ws 0 0)) q (sym e ∙ t.answer) in
+    ready_at-once q m t k a =
+        let z = found_at (tried n b c sh ws) (start_of b (get_or ws 0 0)) q t.answer in
         let i = and_left (in_run_of n b sh c (get_or ws 0 0)) _ z.0 in
         let u : all_fresh b sh q ws ≡ true = rw z.1 (and_right (in_run_of n b sh c (get_or ws 0 0)) _ z.0) in
-        let l : b' ≡ fresh_book b sh q ws = left_as true z.0 ∙ ap (λ p. fresh_book b sh p ws) (sym z.1) in
+        let l : b' ≡ fresh_book b sh q ws = left_as (Some q) t true z.0 ∙ ap (λ p. fresh_book b sh p ws) (sym z.1) in
         rw l (all-ready n b c sh q ws (first_pre_run n b c sh ws q a i z.1) m k u)
 
 -- ---- from the marked book on

@@ -1,6 +1,7 @@
 -- The ways out of `run_of`, what a run that was found has, and the loop over the kinds.
 use Rattle.facts.proofs.Prelude.{ℕ, zero, suc, ◌+◌, ◌-◌, ◌≤◌, ◌<◌, arith, add-one, Bool, true, false, ◌&&◌, and-true, and-false, and_assoc, List, ◌≡◌, refl, sym, ap, ◌∙◌, eqb}
 use Rattle.facts.proofs.Prelude.{ltb, leb, length, get_or, drop, drop-cons, le-leb, lt-leb, lt-ltb, le-ltb, eq-eqb, ne_eqb, leb-true, every, and_left, and_right, drop_past}
+use Rattle.std.specs.Prelude.{Some, None}
 use native.Mathlib.Decide.{ℕ_discrete}
 use lib.Bits.{bit_or, bit_xor, or_zero_l, or_add_and, xor_add_and, xor_self, and_le_l, and_le_r}
 use Rattle.words.specs.Word.{kind_of}
@@ -12,21 +13,19 @@ use Rattle.model.specs.Release.{of_kind}
 use Rattle.pages.specs.Runs.{whole}
 use Rattle.pages.specs.Stack.{page_at}
 use Rattle.calls.specs.Out.{start_of, in_run_of}
-use Rattle.release.specs.declared.Found.{Found}
-use Rattle.release.specs.declared.Found.TheVariants.{At, Nothing}
 use Rattle.release.specs.way.Blocks.{run_at}
 use Rattle.release.specs.way.Pre.{InPre}
 use Rattle.release.proofs.BlockSteps.{found_at}
 
 module _ (n : ℕ) (b : List ℕ) (c : ℕ) (sh : Shape) (w p : ℕ) (e : p ≡ page_at w) where
-  none_in : in_run_of n b sh c w ≡ false → Nothing ≡ run_at n b sh c w
+  none_in : in_run_of n b sh c w ≡ false → None ≡ run_at n b sh c w
   none_in h = rw h
 
-  pub past-arena : n ≤ p → Nothing ≡ run_at n b sh c w
+  pub past-arena : n ≤ p → None ≡ run_at n b sh c w
   unfolding in_run_of
   past-arena h = none_in (rw (le-ltb (page_at w) n (rw e at h)))
 
-  pub past-frontier : (f : ℕ) → f ≡ get b (arena frontier) → f ≤ p → Nothing ≡ run_at n b sh c w
+  pub past-frontier : (f : ℕ) → f ≡ get b (arena frontier) → f ≤ p → None ≡ run_at n b sh c w
   unfolding in_run_of
   past-frontier f k h = none_in (rw (← k) (simp (le-ltb (page_at w) f (rw e at h), and-false)))
 
@@ -35,19 +34,19 @@ module _ (n : ℕ) (b : List ℕ) (c : ℕ) (sh : Shape) (w p : ℕ) (e : p ≡ 
     unfolding start_of
     starts-at = rw (← e) (sym k)
 
-    pub past-page : p < q → Nothing ≡ run_at n b sh c w
+    pub past-page : p < q → None ≡ run_at n b sh c w
     unfolding in_run_of
     past-page h = none_in (rw starts-at (simp (lt-leb q (page_at w) (rw e at h), and-false)))
 
-    pub past-run : q ≤ p → sh.pages ≤ p - q → Nothing ≡ run_at n b sh c w
+    pub past-run : q ≤ p → sh.pages ≤ p - q → None ≡ run_at n b sh c w
     unfolding in_run_of
     past-run l h = none_in (rw starts-at (simp (le-ltb (page_at w) (q + sh.pages) (omega arith), and-false)))
 
-    pub not-whole : (t : Bool) → t ≡ whole n b sh c q → t ≡ false → Nothing ≡ run_at n b sh c w
+    pub not-whole : (t : Bool) → t ≡ whole n b sh c q → t ≡ false → None ≡ run_at n b sh c w
     unfolding in_run_of
     not-whole t x h = none_in (rw (starts-at, ← x, h) (simp and-false))
 
-    pub in_run_lem : (f : ℕ) (t : Bool) → p < n → f ≡ get b (arena frontier) → p < f → q ≤ p → p - q < sh.pages → t ≡ whole n b sh c q → t ≡ true → At q ≡ run_at n b sh c w
+    pub in_run_lem : (f : ℕ) (t : Bool) → p < n → f ≡ get b (arena frontier) → p < f → q ≤ p → p - q < sh.pages → t ≡ whole n b sh c q → t ≡ true → Some q ≡ run_at n b sh c w
     unfolding in_run_of
     in_run_lem f t h₁ y h₂ h₃ h₄ x h =
         rw (starts-at, ← y, ← x, h, lt-ltb (page_at w) n (rw e at h₁), lt-ltb (page_at w) f (rw e at h₂), le-leb q (page_at w) (rw e at h₃), lt-ltb (page_at w) (q + sh.pages) (omega arith))
@@ -62,15 +61,15 @@ module _ (n : ℕ) (b : List ℕ) (c : ℕ) (sh : Shape) where
   unfolding whole
   below-arena q e = leb-true (q + sh.pages) n (and_left _ _ e)
 
-  module _ (w : ℕ) (f : Found) (e : f ≡ run_at n b sh c w) where
-    pub run-found : (q : ℕ) → f ≡ At q → whole n b sh c q ≡ true
-    run-found q h =
-        let z = found_at (in_run_of n b sh c w) (start_of b w) q (sym h ∙ e) in
+  module _ (w q : ℕ) (h : Some q ≡ run_at n b sh c w) where
+    pub run-found : whole n b sh c q ≡ true
+    run-found =
+        let z = found_at (in_run_of n b sh c w) (start_of b w) q h in
         rw z.1 (run-whole w z.0)
 
-    pub run-there : (q : ℕ) → f ≡ At q → Sound sh → n ≤ max_pages → words n ≤ length b → InPre b sh q
-    run-there q h s few long =
-        let z = below-arena q (run-found q h) in
+    pub run-there : Sound sh → n ≤ max_pages → words n ≤ length b → InPre b sh q
+    run-there s few long =
+        let z = below-arena q run-found in
         record { sound = s; below = omega (arith, s.paged); there = omega (arith, s.paged) }
 
 -- ---- number 9

@@ -4,6 +4,7 @@
 use Rattle.facts.proofs.Prelude.{ℕ, zero, suc, ◌+◌, ◌-◌, ◌*◌, ◌/◌, ◌%◌, ◌^◌, ◌≤◌, ◌<◌, min, arith, mul-le-mul_right, mul-div_cancel, Bool}
 use Rattle.facts.proofs.Prelude.{true, false, ◌&&◌, ◌||◌, List, [], ◌∷◌, ◌≡◌, refl, sym, ap, ◌∙◌, subst, eqb, leb, length, get_or, drop}
 use Rattle.facts.proofs.Prelude.{length-drop, get_or-drop, drop-drop, leb-true, le-leb, lt-ltb, eq-eqb, eqb-true, and_left, and_right}
+use Rattle.std.specs.Prelude.{Some}
 use native.Mathlib.Decide.{ℕ_discrete}
 use Rattle.words.specs.Word.{kind_of, granule_of}
 use Rattle.classes.specs.declared.Shape.{Shape}
@@ -14,8 +15,6 @@ use Rattle.fields.proofs.Parts.{place_read}
 use Rattle.model.specs.Page.{word_of}
 use Rattle.model.specs.Release.{of_kind}
 use Rattle.pages.specs.Stack.{blocks_from, index_of, is_block}
-use Rattle.release.specs.declared.Found.{Found}
-use Rattle.release.specs.declared.Found.TheVariants.{At}
 use Rattle.release.specs.way.Blocks.{block_in}
 use Rattle.release.specs.way.Marks.{set_mark, fresh_at, marked_in, fresh_in, fresh_count, fresh_book, fresh_bits, set_bits, count_by, book_by}
 use Rattle.release.specs.way.MarkPre.{step_of, room_of, lowest_of, Near, MarkedBits, Stretched, Reaches, Alone}
@@ -253,11 +252,11 @@ module _ (sh : Shape) (q : ℕ) (b b' : List ℕ) (ws : List ℕ) (i : ℕ) (r :
       let d = rw (drop-drop n i ws, ← e) at p.book in
       record { onward = omega arith; within = l; answer = omega (arith, c); left = sym d }
 
-module _ (sh : Shape) (q base span : ℕ) (a : Near sh q base span) (b b' : List ℕ) (ws : List ℕ) (i t : ℕ) (f : Found) (e : f ≡ block_in sh q (get_or ws i 0)) (g : f ≡ At t) where
+module _ (sh : Shape) (q base span : ℕ) (a : Near sh q base span) (b b' : List ℕ) (ws : List ℕ) (i t : ℕ) (g : Some t ≡ block_in sh q (get_or ws i 0)) where
   named : Names sh q (get_or ws i 0) t
   named =
       let w = get_or ws i 0 in
-      let z = found_at (of_kind sh.kind w && is_block sh q w) (index_of sh q w) t (sym g ∙ e) in
+      let z = found_at (of_kind sh.kind w && is_block sh q w) (index_of sh q w) t g in
       record { is = z.0; index = sym z.1 }
 
   pub found-low : t < sh.capacity

@@ -1,5 +1,5 @@
 -- `list_repeats`: number 15, and the book as it was; `out_fault`: the numbers of the blocks in their order.
-use Rattle.facts.proofs.Prelude.{ℕ, suc, ◌≤◌, arith, Bool, true, false, cond, not, List, [], ◌∷◌, ◌≡◌, refl, sym, ap, ◌∙◌, eqb, leb, length, take, eq-eqb, ne_eqb, le-leb, every}
+use Rattle.facts.proofs.Prelude.{ℕ, suc, ◌≤◌, arith, Bool, true, false, cond, not, List, [], ◌∷◌, ◌≡◌, refl, sym, ap, ◌∙◌, eqb, leb, length, length-take, take, le-leb, every}
 use Rattle.classes.specs.declared.Shape.{Shape}
 use Rattle.fields.specs.Field.{words}
 use Rattle.calls.specs.Out.{out_at, unmarked, repeats, out_fault}
@@ -33,6 +33,9 @@ module _ (n : ℕ) (b : List ℕ) (c : ℕ) (sh : Shape) (ws : List ℕ) (a : Te
   pub count-within : k ≤ length ws
   count-within = omega (arith, r.answer, within n b c sh ws)
 
+  pub count-taken : k ≡ length (take k ws)
+  count-taken = sym (length-take k ws ∙ omega (arith, count-within))
+
   hb : leb (words n) (length b) ≡ true
   hb = le-leb (words n) (length b) a.class.long
 
@@ -47,11 +50,8 @@ module _ (n : ℕ) (b : List ℕ) (c : ℕ) (sh : Shape) (ws : List ℕ) (a : Te
     flip x true z = rw z
     flip x false z = rw z
 
-    pub none-twice : k ≡ length ws → Tested false b'' n b c sh ws
-    none-twice h = record { answer = sym (flip _ _ told ∙ rw (eq-eqb k (length ws) h)); left = back }
-
-    pub some-twice : (k ≡ length ws → ⊥) → Tested true b'' n b c sh ws
-    some-twice h = record { answer = sym (flip _ _ told ∙ rw (ne_eqb k (length ws) h)); left = back }
+    pub twice-told : Tested (not (eqb k (length ws))) b'' n b c sh ws
+    twice-told = record { answer = sym (flip _ _ told); left = back }
 
 -- ---- the numbers in their order
 module _ (n : ℕ) (b : List ℕ) (c : ℕ) (sh : Shape) (ws : List ℕ) (a : FaultPre n b c sh ws) (t : Bool) (e : t ≡ unmarked n b c sh ws) where

@@ -1,7 +1,9 @@
 pub mod Blocks
+pub mod Told
 pub mod Pre
 pub mod Valid
 pub mod Marks
 pub mod MarkPre
 pub mod Act
 pub mod One
+pub mod Fate

@@ -7,8 +7,10 @@ ghost use Rattle.release.specs.way.Blocks.{block_at, block_in, run_at, find_out}
 ghost use Rattle.release.specs.way.Pre.{ClassPre};
 ghost use Rattle.release.specs.way.MarkPre.{Near};
 
-use super::{Found, Out};
+use super::Place;
 use classes::Shape;
+use fields::arena::ArenaField;
+use fields::page::PageField;
 use lists::whole;
 use pages::page_at;
 use words::Word;
@@ -22,7 +24,7 @@ pub fn behind(w: u64, first: u64) -> u64
 
 // The index of the block of the run at q that the word is.
 // A granule below the blocks wraps to one above them. What does not fill a block stands behind the point of the product.
-fn block_at(shape: Shape, q: u32, w: u64) -> Found
+fn block_at(shape: Shape, q: u32, w: u64) -> Option<u32>
     requires sound { Sound shape }
     requires q_lt_max_pages { q < max_pages }
     ensures { result ≡ block_at shape q w }
@@ -30,73 +32,67 @@ fn block_at(shape: Shape, q: u32, w: u64) -> Found
     let granule = Word::of(w).granule();
     let x = std::num::wrapping_sub_u64(granule, q as u64 * 4096 + shape.header as u64);
     if x >= (shape.capacity * shape.block) as u64 {
-        return Found::Nothing;
+        return None;
     }
     let product = x * shape.inverse;
     if product % 4294967296 >= shape.inverse {
-        return Found::Nothing;
+        return None;
     }
-    Found::At((product >> 32) as u32)
+    Some((product >> 32) as u32)
 }
 
 // The same of a word of the class's kind: one subtraction from the word of block 0 tells its kind and its granule.
-pub fn block_in(shape: Shape, q: u32, base: u64, span: u32, w: u64) -> Found
+pub fn block_in(shape: Shape, q: u32, base: u64, span: u32, w: u64) -> Option<u32>
     requires { Near shape q base span }
     ensures { result ≡ block_in shape q w }
 {
     let x = behind(w, base);
     if x >= span as u64 {
-        return Found::Nothing;
+        return None;
     }
     let product = x * shape.inverse;
     if product % 4294967296 >= shape.inverse {
-        return Found::Nothing;
+        return None;
     }
-    Found::At((product >> 32) as u32)
+    Some((product >> 32) as u32)
 }
 
 // The first page of the class's run that has the word's granule.
-pub fn run_of(meta: &[u32], n: u32, c: u32, shape: Shape, w: u64) -> Found
+pub fn run_of(meta: &[u32], n: u32, c: u32, shape: Shape, w: u64) -> Option<u32>
     requires { ClassPre n meta.now c shape }
     ensures { result ≡ run_at n meta.now shape c w }
 {
     let page = page_at(w);
     if page >= n as u64 {
-        return Found::Nothing;
+        return None;
     }
     let p = page as u32;
-    if p >= fields::arena::frontier(meta) {
-        return Found::Nothing;
+    if p >= ArenaField::Frontier.get(meta) {
+        return None;
     }
-    let q = fields::page::first(meta, p);
+    let q = PageField::First.get(meta, p);
     if q > p {
-        return Found::Nothing;
+        return None;
     }
     if p - q >= shape.pages {
-        return Found::Nothing;
+        return None;
     }
     if whole(meta, n, c, shape, q) {
-        Found::At(q)
+        Some(q)
     } else {
-        Found::Nothing
+        None
     }
 }
 
 // The block that a word is, if it is out in the class.
-pub fn find_out(meta: &[u32], n: u32, c: u32, shape: Shape, w: u64) -> Out
+pub fn find_out(meta: &[u32], n: u32, c: u32, shape: Shape, w: u64) -> Option<Place>
     requires { ClassPre n meta.now c shape }
     ensures { result ≡ find_out n meta.now c shape w }
 {
-    let run = run_of(meta, n, c, shape, w);
-    let Found::At(q) = run else {
-        return Out::Nowhere;
-    };
-    let block = block_at(shape, q, w);
-    let Found::At(i) = block else {
-        return Out::Nowhere;
-    };
-    if fields::out::bit(meta, q, i) != 1 {
-        return Out::Nowhere;
+    let run = run_of(meta, n, c, shape, w)?;
+    let index = block_at(shape, run, w)?;
+    if fields::out::bit(meta, run, index) != 1 {
+        return None;
     }
-    Out::Block(q, i)
+    Some(Place { run, index })
 }

@@ -17,10 +17,8 @@ pub fn all_of_kind(list: &[u64], kind: u32) -> bool
     ensures { result ≡ every (of_kind kind) list.now }
 {
     let mut any = 0;
-    let mut i = 0;
-    while i < list.len() {
-        any |= differs(list[i], kind);
-        i += 1;
+    for w in list {
+        any |= differs(*w, kind);
     }
     any == 0
 }

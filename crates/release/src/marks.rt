@@ -9,10 +9,9 @@ ghost use Rattle.pages.specs.way.Pre.{ClearPre};
 ghost use Rattle.release.specs.way.Marks.{no_marks, take_word, take_marks};
 ghost use Rattle.release.specs.way.MarkPre.{step_of, room_of, lowest_of, FieldPre, Near, MarkedBits, MarkedBlock, MarkedOne, MarkedIn, MarkedTo, Stretched, Reaches, Alone};
 
-use super::Found;
 use super::blocks::{behind, block_in};
 use classes::Shape;
-use lists::{min, word_of};
+use lists::word_of;
 
 // Whether the n blocks from 32 j + s on, whose bits are in one word, are out and not marked; they then are marked.
 fn mark_bits(meta: &mut [u32], q: u32, j: u32, s: u32, n: u32) -> bool
@@ -47,8 +46,7 @@ fn mark_one(meta: &mut [u32], shape: Shape, q: u32, base: u64, span: u32, w: u64
     requires near { Near shape q base span }
     ensures { MarkedOne result meta.new meta.old shape q w }
 {
-    let block = block_in(shape, q, base, span, w);
-    let Found::At(i) = block else {
+    let Some(i) = block_in(shape, q, base, span, w) else {
         return false;
     };
     mark_block(meta, q, i)
@@ -59,8 +57,7 @@ fn words_left(list: &[u64], i: usize, most: usize) -> usize
     requires { i ≤ length list.now }
     ensures { result ≡ min most (length list.now - i) }
 {
-    let left = list.len() - i;
-    if most < left { most } else { left }
+    most.min(list.len() - i)
 }
 
 // How many listed words from place i on, at most `room`, are each one step behind the one before.
@@ -88,7 +85,7 @@ fn room(shape: Shape, t: u32, up: bool) -> u32
     ensures { result ≡ room_of shape t up }
 {
     if up {
-        min(32 - t % 32, shape.capacity - t)
+        (32 - t % 32).min(shape.capacity - t)
     } else {
         t % 32 + 1
     }
@@ -122,8 +119,7 @@ fn mark_along(
     requires step_value { step ≡ step_of shape up }
     ensures { Reaches result meta.new meta.old shape q list.now i }
 {
-    let block = block_in(shape, q, base, span, list[i]);
-    let Found::At(t) = block else {
+    let Some(t) = block_in(shape, q, base, span, list[i]) else {
         return i;
     };
     let n = stretch(list, step, i, room(shape, t, up) as usize);
@@ -275,10 +271,8 @@ pub fn no_marks(meta: &[u32], q: u32, m: u32) -> bool
     ensures { result ≡ no_marks meta.now q m }
 {
     let mut any = 0;
-    let mut j = 0;
-    while j < m {
+    for j in 0..m {
         any |= fields::marks::word(meta, q, j);
-        j += 1;
     }
     any == 0
 }
@@ -288,10 +282,8 @@ pub fn clear_marks(meta: &mut [u32], q: u32, m: u32)
     requires { ClearPre meta.old q m }
     ensures { meta.new ≡ clear_marks meta.old q m }
 {
-    let mut j = 0;
-    while j < m {
+    for j in 0..m {
         fields::marks::set_word(meta, q, j, 0);
-        j += 1;
     }
 }
 
@@ -309,9 +301,7 @@ pub fn take_marks(meta: &mut [u32], q: u32, m: u32)
     requires { ClearPre meta.old q m }
     ensures { meta.new ≡ take_marks meta.old q m }
 {
-    let mut j = 0;
-    while j < m {
+    for j in 0..m {
         take_word(meta, q, j);
-        j += 1;
     }
 }

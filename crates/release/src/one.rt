@@ -10,11 +10,11 @@ ghost use Rattle.release.specs.way.Pre.{ClassPre};
 ghost use Rattle.release.specs.way.Valid.{ValidPre};
 ghost use Rattle.release.specs.way.One.{ready_at, stays_valid, PutPre, BackPre, BackOne, OneIn, OneBack};
 
-use super::Found;
 use super::blocks::{block_in, run_of};
 use super::park::relist;
 use super::valid::{page_valid, row_valid};
 use classes::{Shape, shape_of};
+use fields::page::PageField;
 use lists::{push_one, word_of};
 
 // Block i of the run at q is out, and its word of marks is 0.
@@ -38,7 +38,7 @@ fn stays_valid(meta: &[u32], n: u32, c: u32, shape: Shape, q: u32) -> bool
     }
     if page_valid(meta, shape, 1, q) {
         if row_valid(meta, c) {
-            return fields::page::carved(meta, q) - fields::page::free(meta, q) != 1;
+            return PageField::Carved.get(meta, q) - PageField::Free.get(meta, q) != 1;
         }
     }
     false
@@ -72,27 +72,21 @@ fn one_in(meta: &mut [u32], n: u32, c: u32, shape: Shape, q: u32, w: u64) -> boo
     requires { RunPre n meta.old c shape q (w ∷ []) }
     ensures { OneIn result meta.new n meta.old c shape q w }
 {
-    let block = block_in(
-        shape,
-        q,
-        word_of(shape, q, 0),
-        shape.capacity * shape.block,
-        w,
-    );
-    let Found::At(i) = block else {
+    let base = word_of(shape, q, 0);
+    let span = shape.capacity * shape.block;
+    let Some(i) = block_in(shape, q, base, span, w) else {
         return false;
     };
     back_one(meta, n, c, shape, q, i)
 }
 
-// True: the release is carried out, and its fate is KEPT_FATE. False: the book is as it was.
+// True: the release is carried out, and its fate is Kept. False: the book is as it was.
 pub fn release_one(meta: &mut [u32], n: u32, c: u32, w: u64) -> bool
     requires { ClassPre n meta.old c (shape_of c) }
     ensures { OneBack result meta.new n meta.old c (shape_of c) w }
 {
     let shape = shape_of(c);
-    let run = run_of(meta, n, c, shape, w);
-    let Found::At(q) = run else {
+    let Some(q) = run_of(meta, n, c, shape, w) else {
         return false;
     };
     one_in(meta, n, c, shape, q, w)

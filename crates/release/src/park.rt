@@ -4,11 +4,13 @@ ghost use Rattle.model.specs.Destination.{fate_of};
 ghost use Rattle.pages.specs.way.Pre.{LinkPre};
 ghost use Rattle.pages.specs.Stack.{index_of};
 ghost use Rattle.calls.specs.Release.{unlisted, relisted, park_cold, parked_in, park_at, last_step};
+ghost use Rattle.release.specs.way.Fate.{fate_number};
 ghost use Rattle.release.specs.way.Act.{cold_virgin, settle_at, ParkingPre, ColdPre, StorePre, BackPre, SettlePre, Parked};
 
+use super::Fate;
 use super::valid::destination_at;
-use super::{ARENA_FATE, COLD_FATE, KEPT_FATE};
 use classes::Shape;
+use fields::page::PageField;
 use model::Destination;
 use pages::Park;
 use words::{Host, Word};
@@ -18,7 +20,7 @@ fn unlist(meta: &mut [u32], c: u32, shape: Shape, q: u32)
     requires { ParkingPre meta.old c shape q }
     ensures { meta.new ≡ unlisted meta.old c q }
 {
-    if fields::page::listed(meta, q) == 1 {
+    if PageField::Listed.get(meta, q) == 1 {
         lists::unlink_partial(meta, c, q);
     }
 }
@@ -28,7 +30,7 @@ pub fn relist(meta: &mut [u32], c: u32, q: u32)
     requires { LinkPre meta.old c q }
     ensures { meta.new ≡ relisted meta.old c q }
 {
-    if fields::page::listed(meta, q) == 0 {
+    if PageField::Listed.get(meta, q) == 0 {
         lists::link_partial(meta, c, q);
     }
 }
@@ -44,19 +46,19 @@ fn cold_virgin(shape: Shape, host: u32) -> bool
 }
 
 // A cold span counts as kept.
-fn fate_of(shape: Shape, destination: Destination) -> u32
-    ensures { result ≡ fate_of shape destination }
+fn fate_of(shape: Shape, destination: Destination) -> Fate
+    ensures { fate_number result ≡ fate_of shape destination }
 {
     match destination {
-        Destination::ToEmpty => KEPT_FATE,
+        Destination::ToEmpty => Fate::Kept,
         Destination::ToCold => {
             if shape.kind == Word::MEDIUM {
-                KEPT_FATE
+                Fate::Kept
             } else {
-                COLD_FATE
+                Fate::Cold
             }
         }
-        Destination::ToArena => ARENA_FATE,
+        Destination::ToArena => Fate::Arena,
     }
 }
 
@@ -89,9 +91,9 @@ fn park_at_destination(
 }
 
 // Parks a page with none out; its fate.
-pub fn park_empty_page(meta: &mut [u32], c: u32, shape: Shape, host: u32, q: u32) -> u32
+pub fn park_empty_page(meta: &mut [u32], c: u32, shape: Shape, host: u32, q: u32) -> Fate
     requires { ParkingPre meta.old c shape q }
-    ensures { Parked result meta.new (park_at meta.old c shape host q) }
+    ensures { Parked (fate_number result) meta.new (park_at meta.old c shape host q) }
 {
     let destination = destination_at(meta, c, shape);
     unlist(meta, c, shape, q);
@@ -100,16 +102,16 @@ pub fn park_empty_page(meta: &mut [u32], c: u32, shape: Shape, host: u32, q: u32
 }
 
 // The listed blocks, whose out bits are cleared, come back to their page.
-fn release_inner(meta: &mut [u32], c: u32, shape: Shape, host: u32, q: u32, list: &[u64]) -> u32
+fn release_inner(meta: &mut [u32], c: u32, shape: Shape, host: u32, q: u32, list: &[u64]) -> Fate
     requires { BackPre meta.old c shape q list.now }
-    ensures { Parked result meta.new (settle_at meta.old c shape host q (map (index_of shape q) list.now)) }
+    ensures { Parked (fate_number result) meta.new (settle_at meta.old c shape host q (map (index_of shape q) list.now)) }
 {
     lists::push_list(meta, shape, q, list);
-    if fields::page::carved(meta, q) == fields::page::free(meta, q) {
+    if PageField::Carved.get(meta, q) == PageField::Free.get(meta, q) {
         return park_empty_page(meta, c, shape, host, q);
     }
     relist(meta, c, q);
-    KEPT_FATE
+    Fate::Kept
 }
 
 // The arena is the last step.
@@ -121,12 +123,12 @@ pub fn settle(
     host: u32,
     q: u32,
     list: &[u64],
-) -> u32
+) -> Fate
     requires { SettlePre n meta.old c shape q list.now }
-    ensures { Parked result meta.new (last_step shape q (settle_at meta.old c shape host q (map (index_of shape q) list.now))) }
+    ensures { Parked (fate_number result) meta.new (last_step shape q (settle_at meta.old c shape host q (map (index_of shape q) list.now))) }
 {
     let fate = release_inner(meta, c, shape, host, q, list);
-    if fate == ARENA_FATE {
+    if fate == Fate::Arena {
         runs::give::give(meta, n, q, shape.pages);
     }
     fate

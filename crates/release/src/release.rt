@@ -8,6 +8,7 @@ ghost use Rattle.calls.specs.Out.{start_of};
 ghost use Rattle.calls.specs.Release.{release_blocks};
 ghost use Rattle.release.specs.way.Pre.{ClassPre, StartPre, TakePre};
 ghost use Rattle.release.specs.way.MarkPre.{FieldPre, MarkedAll};
+ghost use Rattle.release.specs.way.Told.{told};
 ghost use Rattle.release.specs.way.Act.{taken_by, MarkedPre, PassedPre, ListPre, Answered, Attempted, Prepared, Finished};
 
 use super::blocks::run_of;
@@ -17,10 +18,12 @@ use super::one::release_one;
 use super::park::settle;
 use super::tests::out_fault;
 use super::valid::release_valid;
-use super::{Found, KEPT_FATE, Released, Verdict};
+use super::{Fate, Marked};
 use classes::{Shape, shape_of};
+use fields::page::PageField;
 use lists::index_of;
 use pages::page_within;
+use words::refusal::Refusal;
 
 // Whether a word's run begins at q; every listed word's.
 fn starts_at(meta: &[u32], n: u32, q: u32, w: u64) -> bool
@@ -28,18 +31,15 @@ fn starts_at(meta: &[u32], n: u32, q: u32, w: u64) -> bool
     requires n_value { nat_lt (page_at w) n ≡ true }
     ensures { result ≡ (start_of meta.now w == q) }
 {
-    fields::page::first(meta, page_within(w)) == q
+    PageField::First.get(meta, page_within(w)) == q
 }
 
 fn of_one_run(meta: &[u32], n: u32, q: u32, list: &[u64]) -> bool
     requires { StartPre n meta.now list.now }
     ensures { result ≡ every (λ w. nat_eq (start_of meta.now w) q) list.now }
 {
-    let mut i = 0;
-    while i < list.len() {
-        if starts_at(meta, n, q, list[i]) {
-            i += 1;
-        } else {
+    for w in list {
+        if !starts_at(meta, n, q, *w) {
             return false;
         }
     }
@@ -51,10 +51,8 @@ fn take_list(meta: &mut [u32], shape: Shape, q: u32, list: &[u64])
     requires { TakePre meta.old shape q list.now }
     ensures { meta.new ≡ set_outs meta.old q 0 (map (index_of shape q) list.now) }
 {
-    let mut i = list.len();
-    while i != 0 {
-        i -= 1;
-        fields::out::set_bit(meta, q, index_of(shape, q, list[i]), 0);
+    for w in list.iter().rev() {
+        fields::out::set_bit(meta, q, index_of(shape, q, *w), 0);
     }
 }
 
@@ -78,46 +76,49 @@ fn finish(
     c: u32,
     shape: Shape,
     host: u32,
-    q: u32,
-    m: u32,
+    marked: Marked,
     list: &[u64],
-) -> Released
-    requires { MarkedPre n meta.old c shape q m list.now }
-    ensures { Finished result meta.new n meta.old c shape host q m list.now }
+) -> Result<Fate, Refusal>
+    requires { MarkedPre n meta.old c shape marked.run marked.marks list.now }
+    ensures { Finished (told result) meta.new n meta.old c shape host marked.run marked.marks list.now }
 {
-    if release_valid(meta, n, c, shape, list.len(), q) {
-        take_all(meta, shape, q, m, list);
-        return Released::Fate(settle(meta, n, c, shape, host, q, list));
+    let q = marked.run;
+    if !release_valid(meta, n, c, shape, list.len(), q) {
+        clear_marks(meta, q, marked.marks);
+        return Err(Refusal::BookWord);
     }
-    clear_marks(meta, q, m);
-    Released::Refused(13)
+    take_all(meta, shape, q, marked.marks, list);
+    Ok(settle(meta, n, c, shape, host, q, list))
 }
 
 // Number 11, of words that are out.
-fn one_run(meta: &[u32], n: u32, c: u32, shape: Shape, list: &[u64]) -> Verdict
+fn one_run(meta: &[u32], n: u32, c: u32, shape: Shape, list: &[u64]) -> Result<Marked, Refusal>
     requires { PassedPre n meta.now c shape list.now }
     ensures { Prepared result meta.now n meta.now c shape list.now }
 {
-    let q = fields::page::first(meta, page_within(list[0]));
-    if of_one_run(meta, n, q, list) {
-        return Verdict::In(q, 0);
+    let q = PageField::First.get(meta, page_within(list[0]));
+    if !of_one_run(meta, n, q, list) {
+        return Err(Refusal::OtherPage);
     }
-    Verdict::No(11)
+    Ok(Marked { run: q, marks: 0 })
 }
 
 // Each number over the whole list, from number 9 on.
-fn test_list(meta: &mut [u32], n: u32, c: u32, shape: Shape, list: &[u64]) -> Verdict
+fn test_list(
+    meta: &mut [u32],
+    n: u32,
+    c: u32,
+    shape: Shape,
+    list: &[u64],
+) -> Result<Marked, Refusal>
     requires { ListPre n meta.old c shape list.now }
     ensures { Prepared result meta.new n meta.old c shape list.now }
 {
-    if all_of_kind(list, shape.kind) {
-        let fault = out_fault(meta, n, c, shape, list);
-        if fault != 0 {
-            return Verdict::No(fault);
-        }
-        return one_run(meta, n, c, shape, list);
+    if !all_of_kind(list, shape.kind) {
+        return Err(Refusal::WrongKind);
     }
-    Verdict::No(9)
+    out_fault(meta, n, c, shape, list)?;
+    one_run(meta, n, c, shape, list)
 }
 
 // A list whose words are all blocks out in the run at q, which has no mark: they are marked. Else the book is as it was.
@@ -126,41 +127,40 @@ fn mark_all(meta: &mut [u32], shape: Shape, q: u32, list: &[u64]) -> bool
     ensures { MarkedAll result meta.new meta.old shape q list.now }
 {
     let m = marks_of(shape);
-    if no_marks(meta, q, m) {
-        let count = mark_here(meta, shape, q, list);
-        if count == list.len() {
-            return true;
-        }
-        clear_marks(meta, q, m);
+    if !no_marks(meta, q, m) {
         return false;
     }
+    if mark_here(meta, shape, q, list) == list.len() {
+        return true;
+    }
+    clear_marks(meta, q, m);
     false
 }
 
 // In as few passes as there can be: the run of the first word, if all words are marked as its blocks. Else the book is as it was.
-fn try_list(meta: &mut [u32], n: u32, c: u32, shape: Shape, list: &[u64]) -> Found
+fn try_list(meta: &mut [u32], n: u32, c: u32, shape: Shape, list: &[u64]) -> Option<u32>
     requires { ListPre n meta.old c shape list.now }
     ensures { Attempted result meta.new n meta.old c shape list.now }
 {
-    let run = run_of(meta, n, c, shape, list[0]);
-    let Found::At(q) = run else {
-        return Found::Nothing;
-    };
+    let q = run_of(meta, n, c, shape, list[0])?;
     if mark_all(meta, shape, q, list) {
-        return Found::At(q);
+        Some(q)
+    } else {
+        None
     }
-    Found::Nothing
 }
 
-fn prepare(meta: &mut [u32], n: u32, c: u32, shape: Shape, list: &[u64]) -> Verdict
+fn prepare(meta: &mut [u32], n: u32, c: u32, shape: Shape, list: &[u64]) -> Result<Marked, Refusal>
     requires { ListPre n meta.old c shape list.now }
     ensures { Prepared result meta.new n meta.old c shape list.now }
 {
-    let tried = try_list(meta, n, c, shape, list);
-    let Found::At(q) = tried else {
-        return test_list(meta, n, c, shape, list);
-    };
-    Verdict::In(q, marks_of(shape))
+    match try_list(meta, n, c, shape, list) {
+        Some(run) => Ok(Marked {
+            run,
+            marks: marks_of(shape),
+        }),
+        None => test_list(meta, n, c, shape, list),
+    }
 }
 
 // From number 7 on.
@@ -171,38 +171,47 @@ fn release_shaped(
     shape: Shape,
     host: u32,
     list: &[u64],
-) -> Released
+) -> Result<Fate, Refusal>
     requires { ClassPre n meta.old c shape }
-    ensures { Answered result meta.new (release_blocks n meta.old c shape host list.now) }
+    ensures { Answered (told result) meta.new (release_blocks n meta.old c shape host list.now) }
 {
-    if list.len() == 0 {
-        return Released::Refused(7);
+    if list.is_empty() {
+        return Err(Refusal::EmptyList);
     }
-    let ready = prepare(meta, n, c, shape, list);
-    match ready {
-        Verdict::No(k) => Released::Refused(k),
-        Verdict::In(q, m) => finish(meta, n, c, shape, host, q, m, list),
-    }
+    let marked = prepare(meta, n, c, shape, list)?;
+    finish(meta, n, c, shape, host, marked, list)
 }
 
 // The shape is made here: handed over it would go through memory (docs/BACKEND.md).
-pub fn release_list(meta: &mut [u32], n: u32, c: u32, host: u32, list: &[u64]) -> Released
+pub fn release_list(
+    meta: &mut [u32],
+    n: u32,
+    c: u32,
+    host: u32,
+    list: &[u64],
+) -> Result<Fate, Refusal>
     requires { ClassPre n meta.old c (shape_of c) }
-    ensures { Answered result meta.new (release_blocks n meta.old c (shape_of c) host list.now) }
+    ensures { Answered (told result) meta.new (release_blocks n meta.old c (shape_of c) host list.now) }
 {
     release_shaped(meta, n, c, shape_of(c), host, list)
 }
 
 // The same, at once where one block is listed and others of its run stay out.
-pub fn release_blocks(meta: &mut [u32], n: u32, c: u32, host: u32, list: &[u64]) -> Released
+pub fn release_blocks(
+    meta: &mut [u32],
+    n: u32,
+    c: u32,
+    host: u32,
+    list: &[u64],
+) -> Result<Fate, Refusal>
     requires { ClassPre n meta.old c (shape_of c) }
-    ensures { Answered result meta.new (release_blocks n meta.old c (shape_of c) host list.now) }
+    ensures { Answered (told result) meta.new (release_blocks n meta.old c (shape_of c) host list.now) }
 {
     if list.len() != 1 {
         return release_list(meta, n, c, host, list);
     }
     if release_one(meta, n, c, list[0]) {
-        return Released::Fate(KEPT_FATE);
+        return Ok(Fate::Kept);
     }
     release_list(meta, n, c, host, list)
 }

@@ -9,6 +9,9 @@ ghost use Rattle.calls.specs.Release.{page_valid, row_valid, destination_at, des
 ghost use Rattle.release.specs.way.Valid.{DestinationPre, ValidPre, DestinationValidPre};
 
 use classes::Shape;
+use fields::arena::ArenaField;
+use fields::class::ClassField;
+use fields::page::PageField;
 use model::Destination;
 use pages::Park;
 use rules::Limits;
@@ -20,7 +23,7 @@ pub fn page_valid(meta: &[u32], shape: Shape, m: usize, q: u32) -> bool
     ensures { result ≡ page_valid meta.now shape m q }
 {
     if lists::header_valid(meta, shape, m, q) {
-        if fields::page::listed(meta, q) <= 1 {
+        if PageField::Listed.get(meta, q) <= 1 {
             return lists::links_valid(meta, q);
         }
     }
@@ -31,7 +34,7 @@ pub fn row_valid(meta: &[u32], c: u32) -> bool
     requires { RowPre meta.now c }
     ensures { result ≡ row_valid meta.now c }
 {
-    if fields::class::partial(meta, c) > fields::arena::frontier(meta) {
+    if ClassField::Partial.get(meta, c) > ArenaField::Frontier.get(meta) {
         return false;
     }
     if lists::store_valid(meta, c, Park::Empty) {
@@ -47,10 +50,10 @@ fn limits_valid(meta: &[u32], c: u32) -> bool
     requires { RowPre meta.now c }
     ensures { result ≡ limits_valid meta.now c }
 {
-    if fields::class::empty_limit(meta, c) > MAX_PARKED {
+    if ClassField::EmptyLimit.get(meta, c) > MAX_PARKED {
         return false;
     }
-    fields::class::cold_limit(meta, c) <= MAX_PARKED
+    ClassField::ColdLimit.get(meta, c) <= MAX_PARKED
 }
 
 pub fn limits_at(meta: &[u32], c: u32) -> Limits
@@ -58,8 +61,8 @@ pub fn limits_at(meta: &[u32], c: u32) -> Limits
     ensures { result ≡ limits_at meta.now c }
 {
     Limits {
-        empty: fields::class::empty_limit(meta, c),
-        cold: fields::class::cold_limit(meta, c),
+        empty: ClassField::EmptyLimit.get(meta, c),
+        cold: ClassField::ColdLimit.get(meta, c),
     }
 }
 
@@ -108,7 +111,7 @@ fn destination_valid(meta: &[u32], n: u32, c: u32, shape: Shape, m: usize, q: u3
     requires { DestinationValidPre meta.now c shape m q }
     ensures { result ≡ destination_valid n meta.now c shape m q }
 {
-    let out = fields::page::carved(meta, q) - fields::page::free(meta, q);
+    let out = PageField::Carved.get(meta, q) - PageField::Free.get(meta, q);
     if out as usize != m {
         return true;
     }

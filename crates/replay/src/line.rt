@@ -1,50 +1,92 @@
 // A line as it is read: a number for each of its words. The name has one too, and stands first.
-ghost use Rattle.std.specs.Prelude.{◌≡◌, ◌+◌, ◌≤◌, min, slice_index};
-ghost use Rattle.replay.specs.way.Line as Line;
-ghost use Rattle.replay.specs.way.Line.{read_byte, put_at};
+ghost use Rattle.std.specs.Prelude.{◌≡◌, ◌+◌, ◌<◌, ◌≤◌, min, slice_index};
+ghost use Rattle.replay.specs.way.Line as way;
 
-// A line's numbers, or its answers; and the low halves of its numbers.
+// A line's numbers, or its answers.
 pub type Numbers = [u64; 4096];
 
-pub type Words = [u32; 4096];
+#[derive(Drop)]
+pub struct Line {
+    pub numbers: Numbers,
+    // The place of the number that is read, and that of the `=`; 0 where there is none.
+    pub count: usize,
+    pub equals: usize,
+}
 
 // A number with a byte more: a blank starts another, a digit counts as one. Of a name the first letter counts a hundred times its byte,
 // each other letter one.
 fn read(value: u64, b: u8) -> u64
-    ensures { result ≡ read_byte value b }
+    ensures { result ≡ way.read_byte value b }
 {
     if b == b' ' || b == b'\n' {
         return 0;
     }
     if b'0' <= b && b <= b'9' {
-        return std::num::wrapping_add_u64(value % 1_844_674_407_370_955_162 * 10, (b % 48) as u64);
+        return (value % 1_844_674_407_370_955_162 * 10).wrapping_add(u64::from(b % 48));
     }
     if value == 0 {
-        return b as u64 * 100;
+        return u64::from(b) * 100;
     }
-    std::num::wrapping_add_u64(value, 1)
+    value.wrapping_add(1)
 }
 
 pub fn low(value: u64) -> u32
-    ensures { result ≡ Line.low value }
+    ensures { result ≡ way.low value }
 {
     (value % 4_294_967_296) as u32
 }
 
-pub fn wide(value: u32) -> u64
-    ensures { result ≡ value }
-{
-    value as u64
-}
+impl Line {
+    pub(crate) fn new() -> Line {
+        Line {
+            numbers: [0; 4096],
+            count: 0,
+            equals: 0,
+        }
+    }
 
-pub fn put(line: &mut Numbers, words: &mut Words, at: usize, b: u8)
-    ensures line_after { line.new ≡ put_at line.old at (read_byte (slice_index line.old at) b) }
-    ensures words_after { words.new ≡ put_at words.old at (Line.low (read_byte (slice_index line.old at) b)) }
-{
-    if at < 4096 {
-        let value = read(line[at], b);
-        line[at] = value;
-        words[at] = low(value);
+    // The low half of a number.
+    pub fn word(&self, i: usize) -> u32
+        requires { i < 4096 }
+        ensures { result ≡ way.low (slice_index self.now.numbers i) }
+    {
+        low(self.numbers[i])
+    }
+
+    // The low halves of all numbers.
+    pub(crate) fn words(&self) -> [u32; 4096] {
+        let mut words = [0; 4096];
+        for (word, number) in words.iter_mut().zip(&self.numbers) {
+            *word = low(*number);
+        }
+        words
+    }
+
+    // A byte more of the number that is read.
+    fn put(&mut self, b: u8)
+        ensures { self.new.numbers ≡ way.put_at self.old.numbers self.old.count (way.read_byte (slice_index self.old.numbers self.old.count) b) }
+    {
+        if self.count < 4096 {
+            self.numbers[self.count] = read(self.numbers[self.count], b);
+        }
+    }
+
+    // A byte more that doesn't end the line.
+    pub(crate) fn byte(&mut self, b: u8) {
+        if b == b' ' {
+            self.count = self.count.wrapping_add(1);
+        }
+        self.put(b);
+        if b == b'=' {
+            self.equals = self.count;
+        }
+    }
+
+    // The line's end. What later places hold stays for the lines that leave them out.
+    pub(crate) fn end(&mut self) {
+        self.count = 0;
+        self.equals = 0;
+        self.put(b'\n');
     }
 }
 
@@ -53,6 +95,5 @@ pub fn end(from: usize, count: u32, most: usize) -> usize
     requires { from ≤ most }
     ensures { result ≡ min (from + count) most }
 {
-    let n = count as usize;
-    if n < most - from { from + n } else { most }
+    from.saturating_add(count as usize).min(most)
 }

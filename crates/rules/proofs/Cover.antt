@@ -2,14 +2,46 @@
 --     rows-cover    a list that is not refused, and not empty
 --     rules-fit     the limits of a list that is not refused; `plain-rules`, those of none are document 01's
 use Rattle.facts.proofs.Prelude.{ℕ, zero, suc, ◌+◌, ◌-◌, ◌*◌, ◌%◌, ◌≤◌, ◌<◌, arith, true, false, ◌&&◌, false≢true, List, [], ◌∷◌, ◌≡◌, refl, sym, ◌∙◌, ap, subst, eqb, leb}
-use Rattle.facts.proofs.Prelude.{ltb, length, get_or, drop, le-leb, lt-ltb, leb-true, leb-false, ltb-true, ltb-false, is_nil, every, All, below, by_cases, and_left, and_right, every-at}
+use Rattle.facts.proofs.Prelude.{ltb, length, get_or, drop, length-drop, drop-cons, le-leb, lt-ltb, leb-true, leb-false, ltb-true, ltb-false, is_nil, every, All, below, by_cases, and_left, and_right, every-at}
 use Rattle.words.specs.Host.{digit}
 use Rattle.words.specs.Limits.{max_parked}
 use Rattle.classes.specs.Shape.{class_count, number_of}
 use Rattle.rules.specs.declared.Limits.{Limits}
-use Rattle.rules.specs.Rules.{plain_limits, plain_rules, RuleRow, rows_in, spans, rows_on, rows_for, limits_fit, good_row, bad_rows, two_rows, no_row, rows_fault, row_limits, limits_in, rules_of, RowOf, ItsRow, RowsCover, Fit}
-use Rattle.rules.specs.way.Rows.{row_at}
-use Rattle.rules.proofs.RowSteps.{rows_next, rows-past}
+use Rattle.rules.specs.Rules.{plain_limits, plain_rules, rows_in, spans, rows_on, rows_for, limits_fit, good_row, bad_rows, two_rows, no_row, rows_fault, row_limits, limits_in, rules_of, RowOf, ItsRow, RowsCover, Fit}
+use Rattle.rules.specs.declared.row.RuleRow.{RuleRow}
+
+-- ---- the rows from word i on
+abbrev row_at : List ℕ → ℕ → RuleRow
+row_at ws i = record { first = get_or ws i 0; last = get_or ws (i + 1) 0; empty = get_or ws (i + 2) 0; cold = get_or ws (i + 3) 0 }
+
+rows_next : (ws : List ℕ) (i : ℕ) → i + 4 ≤ length ws → rows_in (drop i ws) ≡ row_at ws i ∷ rows_in (drop (i + 4) ws)
+unfolding rows_in
+rows_next ws i h =
+    let e₁ : i + 1 ≡ suc i = omega arith in
+    let e₂ : i + 2 ≡ suc (suc i) = omega arith in
+    let e₃ : i + 3 ≡ suc (suc (suc i)) = omega arith in
+    let e₄ : i + 4 ≡ suc (suc (suc (suc i))) = omega arith in
+    rw (
+      e₁,
+      e₂,
+      e₃,
+      e₄,
+      drop-cons ws i 0 (omega arith),
+      drop-cons ws (suc i) 0 (omega arith),
+      drop-cons ws (suc (suc i)) 0 (omega arith),
+      drop-cons ws (suc (suc (suc i))) 0 (omega arith),
+    )
+
+rows_short : (ws : List ℕ) → length ws < 4 → rows_in ws ≡ []
+unfolding rows_in
+rows_short [] h = refl
+rows_short (a ∷ []) h = refl
+rows_short (a ∷ b ∷ []) h = refl
+rows_short (a ∷ b ∷ c ∷ []) h = refl
+rows_short (a ∷ b ∷ c ∷ d ∷ ws) h = absurd (omega arith)
+
+rows-past : (ws : List ℕ) (i : ℕ) → length ws - i < 4 → rows_in (drop i ws) ≡ []
+rows-past ws i h = rows_short (drop i ws) (simp length-drop (omega arith))
 
 -- ---- what no number leaves
 record Passed (ws : List ℕ) : Type 0 where

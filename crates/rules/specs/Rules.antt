@@ -11,6 +11,7 @@ use Rattle.words.specs.Host.{digit}
 use Rattle.words.specs.Limits.{max_parked}
 use Rattle.classes.specs.Shape.{class_count, number_of}
 use Rattle.rules.specs.declared.Limits.{Limits}
+use Rattle.rules.specs.declared.row.RuleRow.{RuleRow}
 
 abbrev pub Rules : Type 0
 Rules = ℕ → Limits
@@ -26,12 +27,6 @@ unfoldable pub plain_rules : Rules
 plain_rules c = plain_limits (number_of c)
 
 -- "A rule row is four 32-bit numbers: first class, last class .., empty limit 0 to 256 and cold limit 0 to 256."
-pub record RuleRow : Type 0 where
-  pub first : ℕ
-  pub last : ℕ
-  pub empty : ℕ
-  pub cold : ℕ
-
 unfoldable pub rows_in : List ℕ → List RuleRow
 rows_in [] = []
 rows_in (f ∷ []) = []

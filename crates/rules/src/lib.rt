@@ -1,6 +1,7 @@
 // Parking rules (document 02, A.9): how many runs each class parks, and the rule rows that an opening is given.
 #![tactic(auto)]
 
+mod row;
 mod rows;
 
 pub use rows::{limits_of, rows_fault};

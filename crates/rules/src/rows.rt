@@ -1,122 +1,66 @@
-// Rule rows: four numbers each, the first and the last class, the empty and the cold limit. Every loop goes by rows or by classes.
-ghost use Rattle.std.specs.Prelude.{◌≡◌};
-ghost use Rattle.facts.specs.Lists.{every};
-ghost use Rattle.rules.specs.way.Rows.{HasRow, row_at};
-ghost use Rattle.rules.specs.Rules.{plain_limits, spans, good_row, rows_in, rows_for, bad_rows, two_rows, no_row, rows_fault, row_limits, limits_in, rules_of};
+// The rule rows that an opening is given, four words each.
+ghost use Rattle.std.specs.Prelude.{◌≡◌, map};
+ghost use Rattle.words.specs.Refusal.{code_of};
+ghost use Rattle.rules.specs.Rules.{plain_limits, rows_in, rows_for, bad_rows, two_rows, no_row, rows_fault, limits_in, rules_of};
+ghost use Rattle.rules.specs.way.Rows.{row_of};
 
 use super::Limits;
+use super::row::RuleRow;
 use classes::{CLASS_COUNT, NUM_CLASSES, number_of};
-use words::limits::MAX_PARKED;
+use words::refusal::Refusal;
 
-// The row at i is one of class c.
-fn spans(rows: &[u32], i: usize, c: u32) -> bool
-    requires { HasRow rows.now i }
-    ensures { result ≡ spans (row_at rows.now i) c }
+// The whole rows of a list.
+fn whole_rows(words: &[u32]) -> &[[u32; 4]]
+    ensures { map row_of result.now ≡ rows_in words.now }
 {
-    if rows[i] <= c {
-        return c <= rows[i + 1];
-    }
-    false
+    let (rows, _) = words.as_chunks::<4>();
+    rows
 }
 
-fn good_row(rows: &[u32], i: usize) -> bool
-    requires { HasRow rows.now i }
-    ensures { result ≡ good_row (row_at rows.now i) }
+fn bad_rows(words: &[u32]) -> bool
+    ensures { result ≡ bad_rows words.now }
 {
-    if rows[i + 2] > MAX_PARKED {
-        return false;
-    }
-    if rows[i + 3] > MAX_PARKED {
-        return false;
-    }
-    if rows[i] <= rows[i + 1] {
-        return rows[i + 1] < CLASS_COUNT;
-    }
-    false
-}
-
-fn all_good(rows: &[u32]) -> bool
-    ensures { result ≡ every good_row (rows_in rows.now) }
-{
-    let mut i = 0;
-    while rows.len() - i >= 4 {
-        if !good_row(rows, i) {
-            return false;
-        }
-        i += 4;
-    }
-    true
-}
-
-fn bad_rows(rows: &[u32]) -> bool
-    ensures { result ≡ bad_rows rows.now }
-{
-    if rows.len() % 4 == 0 {
-        return !all_good(rows);
-    }
-    true
+    words.len() % 4 != 0
+        || !whole_rows(words)
+            .iter()
+            .all(|row| RuleRow::from(*row).is_good())
 }
 
 // How many rows class c has.
-fn rows_for(rows: &[u32], c: u32) -> usize
-    ensures { result ≡ rows_for rows.now c }
+fn rows_for(words: &[u32], c: u32) -> usize
+    ensures { result ≡ rows_for words.now c }
 {
-    let mut n: usize = 0;
-    let mut i = 0;
-    while rows.len() - i >= 4 {
-        if spans(rows, i, c) {
-            n += 1;
-            i += 4;
-        } else {
-            i += 4;
-        }
-    }
-    n
+    whole_rows(words)
+        .iter()
+        .filter(|row| RuleRow::from(**row).spans(c))
+        .count()
 }
 
-fn two_rows(rows: &[u32]) -> bool
-    ensures { result ≡ two_rows rows.now }
+fn two_rows(words: &[u32]) -> bool
+    ensures { result ≡ two_rows words.now }
 {
-    let mut c = CLASS_COUNT;
-    while c != 0 {
-        c -= 1;
-        if rows_for(rows, c) > 1 {
-            return true;
-        }
-    }
-    false
+    (0..CLASS_COUNT).any(|c| rows_for(words, c) > 1)
 }
 
-fn no_row(rows: &[u32]) -> bool
-    ensures { result ≡ no_row rows.now }
+fn no_row(words: &[u32]) -> bool
+    ensures { result ≡ no_row words.now }
 {
-    if rows.len() == 0 {
-        return false;
-    }
-    let mut c = CLASS_COUNT;
-    while c != 0 {
-        c -= 1;
-        if rows_for(rows, c) == 0 {
-            return true;
-        }
-    }
-    false
+    !words.is_empty() && (0..CLASS_COUNT).any(|c| rows_for(words, c) == 0)
 }
 
-// Number 19, 18 or 17, or 0.
-pub fn rows_fault(rows: &[u32]) -> u32
-    ensures { result ≡ rows_fault rows.now }
+pub fn rows_fault(words: &[u32]) -> Result<(), Refusal>
+    ensures { code_of result ≡ rows_fault words.now }
 {
-    if bad_rows(rows) {
-        return 19;
+    if bad_rows(words) {
+        return Err(Refusal::Rows);
     }
-    if two_rows(rows) {
-        return 18;
+    if two_rows(words) {
+        return Err(Refusal::TwoRows);
     }
-    if no_row(rows) {
-        return 17;
+    if no_row(words) {
+        return Err(Refusal::NoRow);
     }
-    0
+    Ok(())
 }
 
 fn plain_limits(c: u32) -> Limits
@@ -126,33 +70,20 @@ fn plain_limits(c: u32) -> Limits
     Limits { empty, cold: 256 }
 }
 
-fn row_limits(rows: &[u32], i: usize) -> Limits
-    requires { HasRow rows.now i }
-    ensures { result ≡ row_limits (row_at rows.now i) }
-{
-    Limits {
-        empty: rows[i + 2],
-        cold: rows[i + 3],
-    }
-}
-
 // The limits of the class with number c: its row's, and document 01's where it has none.
-fn named_limits(rows: &[u32], c: u32) -> Limits
-    ensures { result ≡ limits_in (rows_in rows.now) c }
+fn named_limits(words: &[u32], c: u32) -> Limits
+    ensures { result ≡ limits_in (rows_in words.now) c }
 {
-    let mut i = 0;
-    while rows.len() - i >= 4 {
-        if spans(rows, i, c) {
-            return row_limits(rows, i);
-        }
-        i += 4;
-    }
-    plain_limits(c)
+    whole_rows(words)
+        .iter()
+        .map(|row| RuleRow::from(*row))
+        .find(|row| row.spans(c))
+        .map_or(plain_limits(c), RuleRow::limits)
 }
 
 // The limits of the class with an id.
-pub fn limits_of(rows: &[u32], id: u32) -> Limits
-    ensures { result ≡ rules_of rows.now id }
+pub fn limits_of(words: &[u32], id: u32) -> Limits
+    ensures { result ≡ rules_of words.now id }
 {
-    named_limits(rows, number_of(id))
+    named_limits(words, number_of(id))
 }

@@ -10,16 +10,16 @@ use Rattle.runs.specs.declared.record.Gain.{Gain}
 use Rattle.model.specs.declared.Hole.{Hole}
 use Rattle.model.specs.HoleStore.{hole}
 use Rattle.runs.specs.declared.ArenaRequest.{ArenaRequest}
-use Rattle.runs.specs.declared.Commit.{Commit}
-use Rattle.runs.specs.declared.Commit.TheVariants.{Run, Nothing}
 use Rattle.runs.specs.way.Change.{drawn_by, gained_by}
+use Rattle.runs.specs.way.Plan.{hole_code}
+use Rattle.std.specs.Prelude as Code
 use Rattle.runs.specs.way.Record.{store_record, advanced, counted}
 use Rattle.arena.specs.Owners.{own}
 use Rattle.arena.specs.Load.{load_hole, load_holes}
 use Rattle.arena.specs.Store.{store_hole}
 use Rattle.runs.specs.way.Act.{with_state, Gives, draw_words, draw_record, Draws, end_none, end_run, end_given, settle, from_frontier, hole_drawn, commit_drawn, next_state, commit_planned}
 use Rattle.runs.specs.way.Pre.{RecordIn, HoleIn, PlanIn, EndsIn, RequestIn, RunIn, BackIn}
-use Rattle.runs.specs.Answer.{Answers}
+use Rattle.runs.specs.Answer.{Commit, Run, Nothing, Answers}
 use Rattle.runs.proofs.StoreLaws.{hole-length}
 use Rattle.runs.proofs.EndsValid.{ends_more, draw-valid}
 
@@ -190,6 +190,9 @@ module _ (n : ℕ) (b : List ℕ) (a : Arena) (s m h w d : ℕ) where
     unfolding commit_drawn
     hole-drawn r y e k = rw (ne_eqb c 0 e) k
 
+    pub hole-drawn-at : (i : ℕ) (r : Commit) (y : List ℕ) → c ≡ suc i → Answers r y (hole_drawn b (with_state s a) i m h w d) → Answers r y (commit_drawn n b (with_state s a) c m h w d)
+    hole-drawn-at i r y e k = let z : c - 1 ≡ i = omega arith in hole-drawn r y (λ w. omega arith) (rw z k)
+
     pub planned-off : (x : List ℕ) → s ≡ next_state a.state h → s ≡ 2 → x ≡ (end_none b (with_state s a)).book → Answers Nothing x (commit_planned n b a c m h w d)
     unfolding commit_planned end_none
     planned-off x e t o = rw (← e, eq-eqb s 2 t) (record { answer = refl; book = o })
@@ -233,5 +236,14 @@ state-ready s h k t e f g v = rw (e, ← f, ← g, v)
 pub state-off : (s h k : ℕ) (t : Bool) → s ≡ 0 → k ≡ h → t ≡ reservation_granted k → t ≡ false → 2 ≡ next_state s h
 state-off s h k t e f g v = rw (e, ← f, ← g, v)
 
-pub plan-hole : (b : List ℕ) (m c : ℕ) (a : Arena) → PlanIn b a c m → (c ≡ 0 → ⊥) → HoleIn a (c - 1) (load_hole b (c - 1)) m
-plan-hole b m c a k d = k d
+pub plan-hole : (b : List ℕ) (m i : ℕ) (a : Arena) (o : Code.Option ℕ) → PlanIn b a (hole_code o) m → o ≡ Code.Some i → HoleIn a i (load_hole b i) m
+plan-hole b m i a o k e =
+    let z : suc i - 1 ≡ i = omega arith in
+    let l : HoleIn a (suc i - 1) (load_hole b (suc i - 1)) m = rw e at k (λ y. let w : suc i ≡ 0 = y in omega arith) in
+    rw z at l
+
+pub at-none : (o : Code.Option ℕ) → o ≡ Code.None → hole_code o ≡ 0
+at-none o e = rw e
+
+pub at_hole : (o : Code.Option ℕ) (i : ℕ) → o ≡ Code.Some i → hole_code o ≡ suc i
+at_hole o i e = rw e

@@ -1,27 +1,29 @@
 -- The ways out of a commit for an owner and of a growth, and what they ask of the steps.
-use Rattle.facts.proofs.Prelude.{ℕ, zero, suc, ◌+◌, ◌-◌, ◌≤◌, ◌^◌, arith, Bool, true, false, cond, not, true≢false, List, ◌≡◌, refl}
+use Rattle.facts.proofs.Prelude.{ℕ, zero, suc, ◌+◌, ◌-◌, ◌≤◌, arith, Bool, true, false, cond, not, true≢false, List, ◌≡◌, refl}
 use Rattle.facts.proofs.Prelude.{sym, ap, ◌∙◌, subst, eqb, leb, length, le-leb, eq-eqb, ne_eqb, not-true, not-false, by_cases}
 use Rattle.std.proofs.Common.{w32, Fits}
 use Rattle.words.specs.Limits.{max_pages, hole_slots}
 use Rattle.words.specs.Host.{commit_granted}
 use Rattle.fields.specs.Field.{arena, held, get, words}
 use Rattle.runs.specs.declared.Arena.{Arena}
-use Rattle.runs.specs.declared.Choice.{Choice}
-use Rattle.runs.specs.declared.Commit.{Commit}
-use Rattle.runs.specs.declared.Commit.TheVariants.{Refused, Nothing}
 use Rattle.arena.specs.Load.{load_hole, load_holes}
 use Rattle.runs.specs.way.Record.{record_of, store_record}
 use Rattle.arena.specs.Valid.{record_valid}
-use Rattle.runs.specs.way.Plan.{plan_as, plan_of, Searches}
+use Rattle.runs.specs.way.Plan.{Choice, chosen, hole_of, hole_code, plan_as, plan_of}
 use Rattle.arena.specs.Calls.{commit_refused, commit_for}
 use Rattle.runs.specs.way.Act.{with_state, end_none, end_run, settle, from_frontier, hole_drawn, commit_drawn, next_state, commit_planned, planned, commit_read, commit_acts, grow_with}
 use Rattle.runs.specs.way.Pre.{RecordIn, HoleIn, PlanIn, EndsIn, RequestIn, BookIn}
 use Rattle.runs.specs.way.Found.{found, has_run, Finds}
-use Rattle.runs.specs.Answer.{Answers}
+use Rattle.runs.specs.Answer.{Commit, Refused, Nothing, Answers}
 use Rattle.runs.proofs.Acts.{valid_record, planned-is, ends_of, commit-acts}
 use Rattle.runs.proofs.PlanLaws.{plan-fits}
 use Rattle.runs.proofs.Planning as Planning
-use Rattle.runs.proofs.Planning.{found-not, found-code}
+use Rattle.runs.proofs.Planning.{coded, code-none, code-some, found-not}
+use Rattle.std.specs.Prelude as Code
+use Rattle.std.specs.Prelude.{Result, Ok, Err, is_some}
+use Rattle.words.specs.declared.refusal.Refusal.{Refusal}
+use Rattle.words.specs.declared.refusal.Refusal.TheVariants.{BookWord}
+use Rattle.words.specs.Refusal.{number_of}
 
 -- ---- the record that was loaded
 pub loaded_record : (n : ℕ) (b : List ℕ) (a : Arena) → record_valid n b ≡ true → a ≡ record_of b → RecordIn n a
@@ -76,6 +78,13 @@ module _ (n : ℕ) (b : List ℕ) (m : ℕ) where
     pub find-off : t ≡ false → plan_as false 0 ≡ found n b m
     unfolding found
     find-off v = rw (← e, v)
+
+  module _ (t : Bool) (e : t ≡ record_valid n b) where
+    pub finds : (a : Arena) (r : Result (Code.Option ℕ) Refusal) → t ≡ true → a ≡ record_of b → r ≡ chosen (plan_of (load_holes b 0 a.count) a.total a.frontier m) → r ≡ chosen (found n b m)
+    finds a r v f g = g ∙ ap chosen (find-on t e a (plan_of (load_holes b 0 a.count) a.total a.frontier m) v f refl)
+
+    pub finds-not : t ≡ false → Err BookWord ≡ chosen (found n b m)
+    finds-not v = ap chosen (find-off t e v)
 
   -- the commit goes by it
   found-commits : BookIn b n → (h w : ℕ) → commit_for n b h m w ≡ cond (found n b m).valid (commit_planned n b (record_of b) (found n b m).code m h w (get b (arena held))) (commit_refused b 13)
@@ -133,27 +142,54 @@ module _ (n : ℕ) (b : List ℕ) (m : ℕ) where
       would_reuse : BookIn b n → (a.state ≡ 2 → ⊥) → (p.code ≡ 0 → ⊥) → Finds true n b m
       would_reuse k u v w = sym (would k w ∙ rw (ne_eqb a.state 2 u, ne_eqb p.code 0 v))
 
-  -- the same by the search's code
+  -- the same by what the search for a hole answered
+  module _ (r : Result (Code.Option ℕ) Refusal) (s : r ≡ chosen (found n b m)) where
+    pub refuses : (e : Refusal) → r ≡ Err e → (h w : ℕ) → BookIn b n → Answers (Refused (number_of e)) b (commit_for n b h m w)
+    refuses e z h w k = let y = found-not (found n b m) r s e z in rw y.1 (commits-off (found n b m) refl h w k (ap not y.0))
+
+    module _ (o : Code.Option ℕ) (d : r ≡ Ok o) (a : Arena) (f : a ≡ record_of b) where
+      p-valid : not (found n b m).valid ≡ false
+      p-valid = ap not (Planning.found-valid (found n b m) r s o d).0
+
+      code-is : (found n b m).code ≡ hole_code o
+      code-is = sym (ap hole_code (Planning.found-valid (found n b m) r s o d).1 ∙ coded (found n b m).code)
+
+      pub told_record : RecordIn n a
+      told_record = found_record (found n b m) refl p-valid a f
+
+      pub told-request : (h e w : ℕ) → BookIn b n → m ≤ max_pages + 1 → e ≡ get b (arena held) → RequestIn b (record { size = n; pages = m; host = h; owner = w; held = e })
+      told-request = found-request (found n b m) refl p-valid a f
+
+      pub told_in : PlanIn b a (hole_code o) m
+      told_in = subst (λ c. PlanIn b a c m) code-is (found_in (found n b m) refl p-valid a f)
+
+      pub told-ends : EndsIn b a
+      told-ends = found-ends (found n b m) refl p-valid a f
+
+      pub goes-on : (h w e : ℕ) (g : Commit) (x : List ℕ) → BookIn b n → e ≡ get b (arena held) → Answers g x (commit_planned n b a (hole_code o) m h w e) → Answers g x (commit_for n b h m w)
+      goes-on h w e g x k z y = commits-on (found n b m) refl p-valid a f h w e g x k z (subst (λ c. Answers g x (commit_planned n b a c m h w e)) (sym code-is) y)
+
+  -- and a trace's question
   module _ (t : Bool) (e : t ≡ record_valid n b) where
     pub search_refused : BookIn b n → t ≡ false → Finds false n b m
     search_refused k v = would-not (plan_as false 0) (find-off t e v) k refl
 
-    module _ (v : t ≡ true) (a : Arena) (f : a ≡ record_of b) (c : ℕ) (s : Searches (plan_of (load_holes b 0 a.count) a.total a.frontier m) c) where
+    module _ (v : t ≡ true) (a : Arena) (f : a ≡ record_of b) (r : Result (Code.Option ℕ) Refusal) (s : r ≡ chosen (plan_of (load_holes b 0 a.count) a.total a.frontier m)) where
       abbrev choice : Choice
       choice = plan_of (load_holes b 0 a.count) a.total a.frontier m
 
       is_found : choice ≡ found n b m
       is_found = find-on t e a choice v f refl
 
-      pub search_not : BookIn b n → c ≡ 2 ^ 32 → Finds false n b m
-      search_not k z = would-not choice is_found k (ap not (found-not choice c s z))
+      pub search_not : (e : Refusal) → BookIn b n → r ≡ Err e → Finds false n b m
+      search_not e k z = would-not choice is_found k (ap not (found-not choice r s e z).0)
 
-      module _ (d : c ≡ 2 ^ 32 → ⊥) where
+      module _ (o : Code.Option ℕ) (d : r ≡ Ok o) where
         sound : not choice.valid ≡ false
-        sound = ap not (Planning.found-valid choice c s d)
+        sound = ap not (Planning.found-valid choice r s o d).0
 
-        same_code : choice.code ≡ c
-        same_code = sym (found-code choice c s d)
+        hole-is : o ≡ hole_of choice.code
+        hole-is = (Planning.found-valid choice r s o d).1
 
         pub search_sum : BookIn b n → m ≤ max_pages + 1 → Fits w32 (a.frontier + m)
         search_sum = found-sum choice is_found sound a f
@@ -161,8 +197,8 @@ module _ (n : ℕ) (b : List ℕ) (m : ℕ) where
         pub search_off : BookIn b n → a.state ≡ 2 → Finds false n b m
         search_off = would-off choice is_found sound a f
 
-        pub search_fresh : BookIn b n → (a.state ≡ 2 → ⊥) → c ≡ 0 → Finds (leb (a.frontier + m) n) n b m
-        search_fresh k u z = would-fresh choice is_found sound a f k u (same_code ∙ z)
+        pub search_fresh : BookIn b n → (a.state ≡ 2 → ⊥) → (x : Bool) → x ≡ is_some o → x ≡ false → Finds (leb (a.frontier + m) n) n b m
+        search_fresh k u x y z = would-fresh choice is_found sound a f k u (code-none choice.code (rw hole-is at (sym y ∙ z)))
 
-        pub search_reuse : BookIn b n → (a.state ≡ 2 → ⊥) → (c ≡ 0 → ⊥) → Finds true n b m
-        search_reuse k u z = would_reuse choice is_found sound a f k u (λ y. z (sym same_code ∙ y))
+        pub search_reuse : BookIn b n → (a.state ≡ 2 → ⊥) → (x : Bool) → x ≡ is_some o → x ≡ true → Finds x n b m
+        search_reuse k u x y z = rw z (would_reuse choice is_found sound a f k u (code-some choice.code (rw hole-is at (sym y ∙ z))))

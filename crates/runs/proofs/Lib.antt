@@ -12,3 +12,4 @@ mod RecordSteps
 mod ActSteps
 mod GiveSteps
 pub mod CommitSteps
+pub mod Told

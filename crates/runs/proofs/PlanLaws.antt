@@ -11,11 +11,10 @@ use Rattle.model.specs.HoleStore.{hole_at, choose}
 use Rattle.model.specs.BestFit.{LeastAt}
 use Rattle.model.proofs.StoreLaws.{Chosen, at-hole, no-hole, chosen}
 use Rattle.runs.specs.declared.Arena.{Arena}
-use Rattle.runs.specs.declared.Choice.{Choice}
 use Rattle.arena.specs.Load.{load_hole, load_holes}
 use Rattle.runs.specs.way.Record.{record_of}
 use Rattle.arena.specs.Valid.{record_valid, hole_valid, holes_valid, grow_gives, grow_valid}
-use Rattle.runs.specs.way.Plan.{index_code}
+use Rattle.runs.specs.way.Plan.{Choice, index_code}
 use Rattle.arena.specs.Calls.{commit_refused, commit_for}
 use Rattle.runs.specs.way.Act.{end_none, from_frontier, commit_drawn, next_state, with_state, commit_planned, planned, commit_read, commit_acts, grow_with, grow_acts, clamped}
 use Rattle.arena.proofs.Frames.{loaded_length}

@@ -2,10 +2,11 @@
 --     scans-start, part-scans, one-scans        before the first turn; a part, or a hole, is weighed
 --     searches-start, part-again, one_again     the same, where each is in its range
 --     part_no, one-no, searches-done            the ways out of `search`: one is out of its range; none is left
---     plans-none, plans-invalid, plans-found    the plan, of what a search answers
+--     plans-none                                a plan with no hole stored
+--     found-not, found-valid                    what a search answered
 --     touches-done                              the way out of `neighbours`
 --     ends-again, ends-done                     the test of a give's range: a hole is tested; none is left
-use Rattle.facts.proofs.Prelude.{ℕ, ◌-◌, ◌<◌, ◌≤◌, ◌^◌, arith, Bool, true, false, not, ◌&&◌, true≢false, List, [], ◌≡◌, refl, sym, ap, ◌∙◌, subst, not-true, every, by_cases}
+use Rattle.facts.proofs.Prelude.{ℕ, zero, suc, ◌-◌, ◌<◌, ◌≤◌, ◌^◌, arith, Bool, true, false, not, ◌&&◌, true≢false, List, [], ◌≡◌, refl, sym, ap, ◌∙◌, not-true, every, by_cases}
 use Rattle.model.specs.declared.Hole.{Hole}
 use Rattle.model.specs.HoleStore.{least_fit}
 use Rattle.arena.specs.Load.{load_hole, load_holes}
@@ -13,12 +14,15 @@ use Rattle.arena.specs.Valid.{hole_valid, hole_ends_valid}
 use Rattle.runs.specs.declared.holes.Best.{Best}
 use Rattle.runs.specs.declared.holes.Neighbours.{Neighbours}
 use Rattle.runs.specs.declared.holes.Edges.{Edges}
-use Rattle.runs.specs.declared.Choice.{Choice}
-use Rattle.runs.specs.way.Plan.{plan_as, plan_of, Searches, neighbours_of}
+use Rattle.runs.specs.way.Plan.{Choice, chosen, hole_of, hole_code, plan_as, plan_of, neighbours_of}
 use Rattle.runs.specs.way.Scan.{no_best, better_of, fold_holes, best_of, code_at, no_neighbours, neighbours_at}
 use Rattle.runs.proofs.Loading.{and-true, part-valid, part-fold_holes}
 use Rattle.runs.proofs.Least.{plan-is}
 use Rattle.runs.proofs.Touching.{neighbours-are, valid_at, all_ends_valid}
+use Rattle.std.specs.Prelude as Code
+use Rattle.std.specs.Prelude.{Result, Ok, Err, None, is_some}
+use Rattle.words.specs.declared.refusal.Refusal.{Refusal}
+use Rattle.words.specs.declared.refusal.Refusal.TheVariants.{BookWord}
 
 -- the holes that the words hold at the index i and on, of so many
 abbrev from : List ℕ → ℕ → ℕ → List Hole
@@ -63,18 +67,37 @@ yes-is : (t : Bool) → not t ≡ false → t ≡ true
 yes-is t d = by_cases t (λ y. y) (λ y. absurd (true≢false (ap not (sym y) ∙ d)))
 
 -- what a search answered, for any plan
-module _ (p : Choice) (c : ℕ) (k : Searches p c) where
-  pub found-valid : (c ≡ 2 ^ 32 → ⊥) → p.valid ≡ true
-  found-valid d = by_cases p.valid (λ y. y) (λ y. absurd (d (rw y at k.told)))
+pub coded : (c : ℕ) → hole_code (hole_of c) ≡ c
+coded zero = refl
+coded (suc i) = refl
 
-  pub found-small : (c ≡ 2 ^ 32 → ⊥) → c < 2 ^ 32
-  found-small d = k.small (found-valid d)
+pub hole-none : (c : ℕ) → c ≡ 0 → None ≡ hole_of c
+hole-none c e = rw e
 
-  pub found-code : (c ≡ 2 ^ 32 → ⊥) → c ≡ p.code
-  found-code d = rw (found-valid d) at k.told
+pub hole-some : (c : ℕ) → (c ≡ 0 → ⊥) → Code.Some (c - 1) ≡ hole_of c
+hole-some zero d = absurd (d refl)
+hole-some (suc i) d = let z : suc i - 1 ≡ i = omega arith in ap Code.Some z
 
-  pub found-not : c ≡ 2 ^ 32 → p.valid ≡ false
-  found-not e = by_cases p.valid (λ y. absurd (let z = k.small y in omega arith)) (λ y. y)
+pub code-none : (c : ℕ) → is_some (hole_of c) ≡ false → c ≡ 0
+code-none zero e = refl
+code-none (suc i) e = absurd (true≢false e)
+
+pub code-some : (c : ℕ) → is_some (hole_of c) ≡ true → c ≡ 0 → ⊥
+code-some zero e z = true≢false (sym e)
+code-some (suc i) e z = omega arith
+
+module _ (p : Choice) (r : Result (Code.Option ℕ) Refusal) (k : r ≡ chosen p) where
+  pub found-not : (e : Refusal) → r ≡ Err e → (p.valid ≡ false) × (e ≡ BookWord)
+  found-not e z =
+      by_cases p.valid
+      (λ y. let w = rw y at k in let x : ◌≡◌ {A = Result (Code.Option ℕ) Refusal} (Ok (hole_of p.code)) (Err e) = sym w ∙ z in cc)
+      (λ y. let w = rw y at k in let x : ◌≡◌ {A = Result (Code.Option ℕ) Refusal} (Err BookWord) (Err e) = sym w ∙ z in (y, cc))
+
+  pub found-valid : (o : Code.Option ℕ) → r ≡ Ok o → (p.valid ≡ true) × (o ≡ hole_of p.code)
+  found-valid o z =
+      by_cases p.valid
+      (λ y. let w = rw y at k in let x : ◌≡◌ {A = Result (Code.Option ℕ) Refusal} (Ok (hole_of p.code)) (Ok o) = sym w ∙ z in (y, cc))
+      (λ y. let w = rw y at k in let x : ◌≡◌ {A = Result (Code.Option ℕ) Refusal} (Err BookWord) (Ok o) = sym w ∙ z in cc)
 
 module _ (b : List ℕ) (count total f pages : ℕ) where
   abbrev ok : Hole → Bool
@@ -93,14 +116,14 @@ module _ (b : List ℕ) (count total f pages : ℕ) where
       so : every ok (from b count i) ≡ t
       so = sym (part-valid b i left count l k.scans.up_to ok) ∙ ap (λ (s : Bool). s && every ok (load_holes b i (left - i))) k.valid ∙ sym is
 
-      invalid : not t ≡ true → Searches all (2 ^ 32)
+      invalid : not t ≡ true → Err BookWord ≡ chosen all
       unfolding plan_of
       invalid d =
           let u = k.scans.up_to in
           let z : count - 0 ≡ count = omega arith in
           let e : every ok (load_holes b 0 count) ≡ false = ap (λ (n : ℕ). every ok (load_holes b 0 n)) (sym z) ∙ sym (part-valid b 0 i count (omega arith) (omega arith) ok)
           ∙ ap (λ (s : Bool). s && every ok (load_holes b 0 (i - 0))) (so ∙ not-true t d) in
-          rw e (record { told = refl; small = λ y. absurd (true≢false (sym y)) })
+          rw e
 
     -- a part
     module _ (l : 4 ≤ left) (part : List Hole) (e : part ≡ load_holes b (left - 4) 4) (t : Bool) (is : t ≡ every ok part) where
@@ -110,7 +133,7 @@ module _ (b : List ℕ) (count total f pages : ℕ) where
       pub part-again : not t ≡ false → (r : Best) → r ≡ best_of pages (left - 4) part best → Searching b count total f pages r (left - 4)
       part-again d r g = record { scans = part-scans (better_of pages) no_best b count best left k.scans l part e r g; valid = so (left - 4) (omega arith) t is-part ∙ yes-is t d }
 
-      pub part_no : not t ≡ true → Searches all (2 ^ 32)
+      pub part_no : not t ≡ true → Err BookWord ≡ chosen all
       part_no d = invalid (left - 4) (omega arith) t is-part d
 
     -- a hole
@@ -122,34 +145,23 @@ module _ (b : List ℕ) (count total f pages : ℕ) where
       pub one_again : not t ≡ false → (r : Best) → r ≡ better_of pages (left - 1) h best → Searching b count total f pages r (left - 1)
       one_again d r g = record { scans = one-scans (better_of pages) no_best b count best left k.scans l h e r g; valid = so (left - 1) (omega arith) t is_one ∙ yes-is t d }
 
-      pub one-no : not t ≡ true → Searches all (2 ^ 32)
+      pub one-no : not t ≡ true → Err BookWord ≡ chosen all
       one-no d = invalid (left - 1) (omega arith) t is_one d
 
-  pub searches_done : pages < 2 ^ 32 → f < 2 ^ 32 → (best : Best) (left : ℕ) → Searching b count total f pages best left → left ≤ 0 → (c : ℕ) → c ≡ code_at pages best → c < 2 ^ 32 → Searches all c
-  searches_done pages-fits f-fits best left k l c e small =
+  pub searches_done : pages < 2 ^ 32 → f < 2 ^ 32 → (best : Best) (left : ℕ) → Searching b count total f pages best left → left ≤ 0 → (c : ℕ) → c ≡ code_at pages best → (o : Code.Option ℕ) → o ≡ hole_of c → Ok o ≡ chosen all
+  searches_done pages-fits f-fits best left k l c e o g =
       let z : left ≡ 0 = omega arith in
       let d : count - 0 ≡ count = omega arith in
       let so : every ok (load_holes b 0 count) ≡ true = ap (λ (n : ℕ). every ok (load_holes b 0 n)) (sym d) ∙ ap (λ (i : ℕ). every ok (from b count i)) (sym z) ∙ k.valid in
       let such : best ≡ best_of pages 0 (load_holes b 0 count) no_best = scans-done (better_of pages) no_best b count best left k.scans l in
       let is : plan_as true c ≡ all = ap (plan_as true) (e ∙ ap (code_at pages) such) ∙ ap (λ (s : Bool). plan_as s (code_at pages (best_of pages 0 (load_holes b 0 count) no_best))) (sym so)
       ∙ plan-is pages pages-fits total f f-fits (load_holes b 0 count) in
-      subst (λ (p : Choice). Searches p c) is (record { told = refl; small = λ y. small })
+      ap Ok g ∙ ap chosen is
 
   -- ---- the plan, of what the search answers
-  pub plans_none : count ≡ 0 → record { valid = true; code = 0 } ≡ all
+  pub plans_none : count ≡ 0 → Ok None ≡ chosen all
   unfolding plan_of load_holes least_fit
   plans_none z = let e : load_holes b 0 count ≡ [] = ap (load_holes b 0) z in rw e
-
-  module _ (c : ℕ) (k : Searches all c) where
-    pub plans_invalid : c ≡ 2 ^ 32 → record { valid = false; code = 0 } ≡ all
-    unfolding plan_of
-    plans_invalid e = let y : every ok (load_holes b 0 count) ≡ false = found-not all c k e in rw y
-
-    pub plans_found : (c ≡ 2 ^ 32 → ⊥) → record { valid = true; code = c } ≡ all
-    unfolding plan_of
-    plans_found d =
-        let y : every ok (load_holes b 0 count) ≡ true = found-valid all c k d in
-        rw y (ap (plan_as true) (rw y at k.told))
 
 -- ---- a give
 pub touches_done : (b : List ℕ) (count : ℕ) (run : Edges) (sides : Neighbours) (left : ℕ) → ScanSoFar (neighbours_at run) no_neighbours b count sides left → left ≤ 0 → sides ≡ neighbours_of (load_holes b 0 count) run

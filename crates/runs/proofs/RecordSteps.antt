@@ -82,6 +82,19 @@ module _ (b₀ : List ℕ) (first pages w : ℕ) where
   pub owns-done : (b : List ℕ) (p left : ℕ) → Owning b₀ first pages w b p left → left ≤ 0 → b ≡ own b₀ first pages w
   owns-done b p left k l = let z : left ≡ 0 = omega arith in none w b p left z ∙ k.rest
 
+  -- the pages below p have the owner
+  abbrev pub OwningTo : List ℕ → ℕ → Type 0
+  OwningTo b p = Owning b₀ first pages w b p (first + pages - p)
+
+  pub own-start : OwningTo b₀ first
+  own-start = let z : first + pages - first ≡ pages = omega arith in rw z owns-start
+
+  pub own-again : (b b' : List ℕ) (p : ℕ) → OwningTo b p → p < first + pages → b' ≡ put b (page owner p) w → OwningTo b' (p + 1)
+  own-again b b' p k l e = let z : first + pages - (p + 1) ≡ first + pages - p - 1 = omega arith in rw z (owns-again b b' p (first + pages - p) k (omega arith) e)
+
+  pub own-done : (b : List ℕ) (p : ℕ) → OwningTo b p → first + pages ≤ p → b ≡ own b₀ first pages w
+  own-done b p k l = owns-done b p (first + pages - p) k (omega arith)
+
 -- ---- the holes' test
 pub told-valid : (b : List ℕ) (f count : ℕ) → f ≡ get b (arena frontier) → count ≡ get b (arena holes) → (t : Bool) → t ≡ every (hole_ends_valid f) (load_holes b 0 count) → t ≡ holes_end_valid b
 unfolding holes_end_valid

@@ -1,12 +1,15 @@
 -- What a commit answers, as document 01's numbers and values.
+--     Commit     a refusal's number, a run's first page and whether it is fresh, or no run
 --     Answers    a commit answered r and left the book b, as the definition says
 use Rattle.std.specs.Prelude.{◌≡◌, ℕ, zero, suc, Bool, List}
 use Rattle.std.proofs.Math.Option.{Option, none, some}
-use Rattle.runs.specs.declared.Commit.{Commit}
-use Rattle.runs.specs.declared.Commit.TheVariants.{Refused, Run, Nothing}
 use Rattle.arena.specs.Calls.{Committed}
 
--- a commit: a refusal's number, a run, or none
+pub data Commit : Type 0 where
+  Refused : ℕ → Commit
+  Run : ℕ → Bool → Commit
+  Nothing : Commit
+
 abbrev pub answer_of : ℕ → Option ℕ → Bool → Commit
 answer_of zero none f = Nothing
 answer_of zero (some q) f = Run q f

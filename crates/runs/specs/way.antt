@@ -5,3 +5,4 @@ pub mod Scan
 pub mod Change
 pub mod Pre
 pub mod Found
+pub mod Told

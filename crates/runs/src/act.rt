@@ -7,15 +7,19 @@ ghost use Rattle.arena.specs.Load.{load_hole};
 ghost use Rattle.arena.specs.Owners.{own};
 ghost use Rattle.runs.specs.way.Record.{store_record};
 ghost use Rattle.runs.specs.way.Change.{drawn_by};
+ghost use Rattle.runs.specs.way.Plan.{hole_code};
 ghost use Rattle.runs.specs.way.Act.{with_state, Draws, end_none, end_given, from_frontier, hole_drawn, commit_drawn, next_state, commit_planned};
 ghost use Rattle.runs.specs.way.Pre.{RecordIn, HoleIn, PlanIn, EndsIn, RequestIn, RunIn, BackIn};
+ghost use Rattle.runs.specs.way.Told.{told_commit};
 ghost use Rattle.runs.specs.Answer.{Answers};
 
 use super::holes::hole_from;
 use super::record::Draw;
-use super::{Arena, ArenaRequest, Back, Commit, give, owners, record, store};
+use super::{Arena, ArenaRequest, Back, Run, give, owners, record, store};
+use fields::arena::ArenaField;
 use model::Hole;
 use words::Host;
+use words::refusal::Refusal;
 
 // No run: of the record only the state can change.
 fn end_none(meta: &mut [u32], a: Arena, state: u32)
@@ -40,7 +44,7 @@ fn end_run(meta: &mut [u32], a: Arena, d: Draw, first: u32, q: ArenaRequest)
 {
     store::store_drawn(meta, a, d);
     owners::own(meta, first, q.pages, q.owner);
-    fields::arena::set_held(meta, q.held + q.pages);
+    ArenaField::Held.set(meta, q.held + q.pages);
 }
 
 // The commit is not granted: the run is given.
@@ -53,13 +57,18 @@ fn end_given(meta: &mut [u32], mut a: Arena, d: Draw, run: Back)
 }
 
 // A run at the frontier is fresh; its pages are nobody's if it is given.
-pub fn from_frontier(meta: &mut [u32], a: Arena, state: u32, q: ArenaRequest) -> Commit
+pub fn from_frontier(
+    meta: &mut [u32],
+    a: Arena,
+    state: u32,
+    q: ArenaRequest,
+) -> Result<Option<Run>, Refusal>
     requires { RequestIn meta.old q × RecordIn q.size a × (commit_granted q.host ≡ false → a.frontier + q.pages ≤ q.size → EndsIn meta.old a) }
-    ensures { Answers result meta.new (from_frontier q.size meta.old (with_state state a) q.pages q.host q.owner q.held) }
+    ensures { Answers (told_commit result) meta.new (from_frontier q.size meta.old (with_state state a) q.pages q.host q.owner q.held) }
 {
     if q.size < a.frontier + q.pages {
         end_none(meta, a, state);
-        return Commit::Nothing;
+        return Ok(None);
     }
     let granted = Host::of(q.host).commit_granted();
     let d = Draw {
@@ -72,7 +81,10 @@ pub fn from_frontier(meta: &mut [u32], a: Arena, state: u32, q: ArenaRequest) ->
     };
     if granted {
         end_run(meta, a, d, a.frontier, q);
-        return Commit::Run(a.frontier, true);
+        return Ok(Some(Run {
+            first: a.frontier,
+            fresh: true,
+        }));
     }
     let run = Back {
         first: a.frontier,
@@ -80,7 +92,7 @@ pub fn from_frontier(meta: &mut [u32], a: Arena, state: u32, q: ArenaRequest) ->
         clear: true,
     };
     end_given(meta, a, d, run);
-    Commit::Nothing
+    Ok(None)
 }
 
 // The front of hole `i`, which is `x`, is cut off, or the last hole comes into its place; the number of holes afterwards is answered.
@@ -97,9 +109,15 @@ fn draw(meta: &mut [u32], a: Arena, i: u32, x: Hole, pages: u32) -> u32
     a.count - 1
 }
 
-fn from_hole(meta: &mut [u32], a: Arena, state: u32, i: u32, q: ArenaRequest) -> Commit
+fn from_hole(
+    meta: &mut [u32],
+    a: Arena,
+    state: u32,
+    i: u32,
+    q: ArenaRequest,
+) -> Result<Option<Run>, Refusal>
     requires { RequestIn meta.old q × RecordIn q.size a × HoleIn a i (load_hole meta.old i) q.pages × EndsIn meta.old a }
-    ensures { Answers result meta.new (hole_drawn meta.old (with_state state a) i q.pages q.host q.owner q.held) }
+    ensures { Answers (told_commit result) meta.new (hole_drawn meta.old (with_state state a) i q.pages q.host q.owner q.held) }
 {
     let x = hole_from(meta, i);
     let count = draw(meta, a, i, x, q.pages);
@@ -114,7 +132,10 @@ fn from_hole(meta: &mut [u32], a: Arena, state: u32, i: u32, q: ArenaRequest) ->
     };
     if granted {
         end_run(meta, a, d, x.first, q);
-        return Commit::Run(x.first, false);
+        return Ok(Some(Run {
+            first: x.first,
+            fresh: false,
+        }));
     }
     let run = Back {
         first: x.first,
@@ -122,17 +143,23 @@ fn from_hole(meta: &mut [u32], a: Arena, state: u32, i: u32, q: ArenaRequest) ->
         clear: false,
     };
     end_given(meta, a, d, run);
-    Commit::Nothing
+    Ok(None)
 }
 
-fn commit_drawn(meta: &mut [u32], a: Arena, state: u32, code: u32, q: ArenaRequest) -> Commit
-    requires { RequestIn meta.old q × RecordIn q.size a × PlanIn meta.old a code q.pages × EndsIn meta.old a }
-    ensures { Answers result meta.new (commit_drawn q.size meta.old (with_state state a) code q.pages q.host q.owner q.held) }
+fn commit_drawn(
+    meta: &mut [u32],
+    a: Arena,
+    state: u32,
+    hole: Option<u32>,
+    q: ArenaRequest,
+) -> Result<Option<Run>, Refusal>
+    requires { RequestIn meta.old q × RecordIn q.size a × PlanIn meta.old a (hole_code hole) q.pages × EndsIn meta.old a }
+    ensures { Answers (told_commit result) meta.new (commit_drawn q.size meta.old (with_state state a) (hole_code hole) q.pages q.host q.owner q.held) }
 {
-    if code == 0 {
-        return from_frontier(meta, a, state, q);
+    match hole {
+        None => from_frontier(meta, a, state, q),
+        Some(i) => from_hole(meta, a, state, i, q),
     }
-    from_hole(meta, a, state, code - 1, q)
 }
 
 // The first commit asks for the reservation.
@@ -148,15 +175,20 @@ fn next_state(state: u32, host: u32) -> u32
     2
 }
 
-// The chosen hole has this code; 0 is none.
-pub fn commit_planned(meta: &mut [u32], a: Arena, code: u32, q: ArenaRequest) -> Commit
-    requires { RequestIn meta.old q × RecordIn q.size a × PlanIn meta.old a code q.pages × EndsIn meta.old a }
-    ensures { Answers result meta.new (commit_planned q.size meta.old a code q.pages q.host q.owner q.held) }
+// The run comes from this hole; with none, from the frontier.
+pub fn commit_planned(
+    meta: &mut [u32],
+    a: Arena,
+    hole: Option<u32>,
+    q: ArenaRequest,
+) -> Result<Option<Run>, Refusal>
+    requires { RequestIn meta.old q × RecordIn q.size a × PlanIn meta.old a (hole_code hole) q.pages × EndsIn meta.old a }
+    ensures { Answers (told_commit result) meta.new (commit_planned q.size meta.old a (hole_code hole) q.pages q.host q.owner q.held) }
 {
     let s = next_state(a.state, q.host);
     if s == 2 {
         end_none(meta, a, s);
-        return Commit::Nothing;
+        return Ok(None);
     }
-    commit_drawn(meta, a, s, code, q)
+    commit_drawn(meta, a, s, hole, q)
 }

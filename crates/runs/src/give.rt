@@ -13,6 +13,8 @@ ghost use Rattle.runs.specs.way.Pre.{StoreIn, SlotIn, StoredIn, TouchIn, GiveIn,
 use super::holes::Edges;
 use super::record::Gain;
 use super::{Arena, Back, load, owners, plans, store};
+use fields::arena::ArenaField;
+use fields::hole::HoleField;
 use words::limits::{HOLE_PAGES_MAX, HOLE_SLOTS};
 
 // The holes gain pages; the run is lost.
@@ -53,8 +55,8 @@ fn join_before(meta: &mut [u32], a: Arena, i: u32, pages: u32) -> Gain
     requires { SlotIn meta.old a pages × StoredIn meta.old a i }
     ensures { (meta.new ≡ store_hole meta.old i (with_before pages (load_hole meta.old i))) × (result ≡ gains a.count pages) }
 {
-    let first = fields::hole::start(meta, i);
-    let before = fields::hole::pages(meta, i);
+    let first = HoleField::Start.get(meta, i);
+    let before = HoleField::Pages.get(meta, i);
     store::store_hole(meta, i, first, before + pages);
     gains(a.count, pages)
 }
@@ -64,7 +66,7 @@ fn join_after(meta: &mut [u32], a: Arena, j: u32, first: u32, pages: u32) -> Gai
     requires { SlotIn meta.old a pages × StoredIn meta.old a j }
     ensures { (meta.new ≡ store_hole meta.old j (with_after pages first (load_hole meta.old j))) × (result ≡ gains a.count pages) }
 {
-    let after = fields::hole::pages(meta, j);
+    let after = HoleField::Pages.get(meta, j);
     store::store_hole(meta, j, first, pages + after);
     gains(a.count, pages)
 }
@@ -74,8 +76,8 @@ fn move_last(meta: &mut [u32], a: Arena, i: u32, j: u32, first: u32, pages: u32)
     requires { (40000 ≤ length meta.old) × (a.count ≤ hole_slots) × (i < a.count) × (j < a.count) }
     ensures { meta.new ≡ store_hole (store_hole meta.old i (hole first pages)) j (load_hole meta.old (a.count - 1)) }
 {
-    let start = fields::hole::start(meta, a.count - 1);
-    let last = fields::hole::pages(meta, a.count - 1);
+    let start = HoleField::Start.get(meta, a.count - 1);
+    let last = HoleField::Pages.get(meta, a.count - 1);
     store::store_hole(meta, i, first, pages);
     store::store_hole(meta, j, start, last);
 }
@@ -97,9 +99,9 @@ fn join_both(meta: &mut [u32], a: Arena, i: u32, j: u32, pages: u32) -> Gain
     requires { SlotIn meta.old a pages × StoredIn meta.old a i × StoredIn meta.old a j }
     ensures { (meta.new ≡ both_words meta.old a i j (with_both pages (load_hole meta.old i) (load_hole meta.old j))) × (result ≡ gains (a.count - 1) pages) }
 {
-    let first = fields::hole::start(meta, i);
-    let before = fields::hole::pages(meta, i);
-    let after = fields::hole::pages(meta, j);
+    let first = HoleField::Start.get(meta, i);
+    let before = HoleField::Pages.get(meta, i);
+    let after = HoleField::Pages.get(meta, j);
     put_both(meta, a, i, j, first, before + pages + after);
     gains(a.count - 1, pages)
 }
@@ -155,7 +157,7 @@ pub fn give_valid(meta: &[u32], size: u32, pages: u32) -> bool
     ensures { result ≡ give_valid size meta.now pages }
 {
     if load::record_valid(meta, size) {
-        if pages <= fields::arena::held(meta) {
+        if pages <= ArenaField::Held.get(meta) {
             return load::holes_valid(meta);
         }
     }
@@ -168,12 +170,12 @@ pub fn give(meta: &mut [u32], size: u32, first: u32, pages: u32)
     ensures { meta.new ≡ given meta.old first pages }
 {
     let a = load::load_record(meta);
-    let held = fields::arena::held(meta);
+    let held = ArenaField::Held.get(meta);
     let run = Back {
         first,
         pages,
         clear: true,
     };
     give_run(meta, a, run);
-    fields::arena::set_held(meta, held - pages);
+    ArenaField::Held.set(meta, held - pages);
 }

@@ -5,8 +5,8 @@ ghost use Rattle.arena.specs.Load.{load_hole};
 ghost use Rattle.arena.specs.Valid.{hole_ends_valid, hole_valid};
 ghost use Rattle.runs.specs.way.Scan.{no_hole, key, better_of, best_of, neighbours_at, neighbours_from};
 
+use fields::hole::HoleField;
 use model::Hole;
-use std::num::wrapping_sub_u32;
 
 pub fn hole_at(holes: &[Hole], i: usize) -> Hole
     requires { i < length holes.now }
@@ -30,8 +30,8 @@ pub const HALF: u64 = 1 << 32;
 fn key_of(need: u32, h: Hole) -> u64
     ensures { result ≡ key need h }
 {
-    let over = wrapping_sub_u32(h.pages, need);
-    (over as u64) * HALF + (h.first as u64)
+    let over = h.pages.wrapping_sub(need);
+    u64::from(over) * HALF + u64::from(h.first)
 }
 
 // The hole at `i`, unless the best of those behind it has a lesser key.
@@ -119,8 +119,8 @@ pub fn hole_from(meta: &[u32], i: u32) -> Hole
     ensures { result ≡ load_hole meta.now i }
 {
     Hole {
-        first: fields::hole::start(meta, i),
-        pages: fields::hole::pages(meta, i),
+        first: HoleField::Start.get(meta, i),
+        pages: HoleField::Pages.get(meta, i),
     }
 }
 
@@ -130,7 +130,7 @@ pub fn hole_ends_valid(h: Hole, frontier: u32) -> bool
     ensures { result ≡ hole_ends_valid frontier h }
 {
     let below = h.first <= frontier;
-    let enough = wrapping_sub_u32(h.pages, 1) < wrapping_sub_u32(frontier, h.first);
+    let enough = h.pages.wrapping_sub(1) < frontier.wrapping_sub(h.first);
     below & enough
 }
 

@@ -16,8 +16,13 @@ ghost use Rattle.std.specs.Prelude.{◌≡◌, ◌+◌, ◌≤◌};
 ghost use Rattle.words.specs.Limits.{max_pages};
 ghost use Rattle.arena.specs.Calls.{commit_for};
 ghost use Rattle.runs.specs.way.Pre.{BookIn};
+ghost use Rattle.runs.specs.way.Plan.{chosen};
 ghost use Rattle.runs.specs.way.Found.{found, Finds};
+ghost use Rattle.runs.specs.way.Told.{told_commit};
 ghost use Rattle.runs.specs.Answer.{Answers};
+
+use fields::arena::ArenaField;
+use words::refusal::Refusal;
 
 // The arena's state, frontier and three counts, with the number of holes and of the pages in them.
 #[derive(Clone, Copy)]
@@ -29,15 +34,6 @@ pub struct Arena {
     pub commits: u64,
     pub reuses: u64,
     pub abandoned: u64,
-}
-
-// What a commit of some pages finds among the holes.
-#[derive(Clone, Copy)]
-pub struct Choice {
-    // Every hole is in its range.
-    pub valid: bool,
-    // The chosen hole: its index and one, or 0 for none.
-    pub code: u32,
 }
 
 // What is asked of the arena: pages for an owner, in an arena of so many pages; the host word, and HELD as it was.
@@ -58,27 +54,23 @@ pub struct Back {
     pub clear: bool,
 }
 
-// What a commit answers: a refusal's number, the run's first page and whether it is fresh, or none.
+// A run that a commit found: its first page, and whether it comes from the frontier.
 #[derive(Clone, Copy)]
-pub enum Commit {
-    Refused(u32),
-    Run(u32, bool),
-    Nothing,
+pub struct Run {
+    pub first: u32,
+    pub fresh: bool,
 }
 
-// What a commit finds among the holes, where every word that it reads is in its range. Nothing is written.
-fn find(meta: &[u32], size: u32, pages: u32) -> Choice
+// The hole that a commit takes its run from, where every word that it reads is in its range. Nothing is written.
+fn find(meta: &[u32], size: u32, pages: u32) -> Result<Option<u32>, Refusal>
     requires { BookIn meta.now size }
-    ensures { result ≡ found size meta.now pages }
+    ensures { result ≡ chosen (found size meta.now pages) }
 {
     if load::record_valid(meta, size) {
         let a = load::load_record(meta);
         return plans::plan(meta, a, pages);
     }
-    Choice {
-        valid: false,
-        code: 0,
-    }
+    Err(Refusal::BookWord)
 }
 
 // Would a commit answer a run, all being granted. It goes by the commit's search: as a second caller of `find` it would keep that out of the commit, and a
@@ -89,37 +81,36 @@ pub fn would_commit(meta: &[u32], size: u32, pages: u32) -> bool
 {
     if load::record_valid(meta, size) {
         let a = load::load_record(meta);
-        let code = plans::search(meta, a.count, a.total, a.frontier, pages);
-        if code == plans::INVALID {
+        let Ok(hole) = plans::search(meta, a.count, a.total, a.frontier, pages) else {
             return false;
-        }
+        };
         if a.state == 2 {
             return false;
         }
-        if code == 0 {
-            return a.frontier + pages <= size;
-        }
-        return true;
+        return hole.is_some() || a.frontier + pages <= size;
     }
     false
 }
 
-// A run longer than any arena is asked for by one page more than that.
-pub fn commit_for(meta: &mut [u32], size: u32, host: u32, pages: u32, owner: u32) -> Commit
+// The run, or none; a refusal comes before anything is written. A run longer than any arena is asked for by one page more than that.
+pub fn commit_for(
+    meta: &mut [u32],
+    size: u32,
+    host: u32,
+    pages: u32,
+    owner: u32,
+) -> Result<Option<Run>, Refusal>
     requires { BookIn meta.old size × (pages ≤ max_pages + 1) }
-    ensures { Answers result meta.new (commit_for size meta.old host pages owner) }
+    ensures { Answers (told_commit result) meta.new (commit_for size meta.old host pages owner) }
 {
-    let p = find(meta, size, pages);
-    if !p.valid {
-        return Commit::Refused(13);
-    }
+    let hole = find(meta, size, pages)?;
     let q = ArenaRequest {
         size,
         pages,
         host,
         owner,
-        held: fields::arena::held(meta),
+        held: ArenaField::Held.get(meta),
     };
     let a = load::load_record(meta);
-    act::commit_planned(meta, a, p.code, q)
+    act::commit_planned(meta, a, hole, q)
 }

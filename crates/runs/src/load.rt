@@ -6,6 +6,7 @@ ghost use Rattle.fields.specs.Field.{arena, holes, get};
 ghost use Rattle.arena.specs.Valid.{record_valid, holes_end_valid};
 
 use super::{Arena, plans};
+use fields::arena::{ArenaField, Counter};
 use words::limits::{HOLE_PAGES_MAX, HOLE_SLOTS};
 
 pub fn load_record(meta: &[u32]) -> Arena
@@ -13,13 +14,13 @@ pub fn load_record(meta: &[u32]) -> Arena
     ensures { result ≡ record_of meta.now }
 {
     Arena {
-        state: fields::arena::state(meta),
-        frontier: fields::arena::frontier(meta),
-        count: fields::arena::holes(meta),
-        total: fields::arena::hole_pages(meta),
-        commits: fields::arena::commits(meta),
-        reuses: fields::arena::reuses(meta),
-        abandoned: fields::arena::abandoned(meta),
+        state: ArenaField::State.get(meta),
+        frontier: ArenaField::Frontier.get(meta),
+        count: ArenaField::Holes.get(meta),
+        total: ArenaField::HolePages.get(meta),
+        commits: Counter::Commits.get(meta),
+        reuses: Counter::Reuses.get(meta),
+        abandoned: Counter::Abandoned.get(meta),
     }
 }
 
@@ -28,17 +29,17 @@ pub fn record_valid(meta: &[u32], size: u32) -> bool
     requires { 40000 ≤ length meta.now }
     ensures { result ≡ record_valid size meta.now }
 {
-    if 2 < fields::arena::state(meta) {
+    if 2 < ArenaField::State.get(meta) {
         return false;
     }
-    if HOLE_SLOTS < fields::arena::holes(meta) {
+    if HOLE_SLOTS < ArenaField::Holes.get(meta) {
         return false;
     }
-    if HOLE_PAGES_MAX < fields::arena::hole_pages(meta) {
+    if HOLE_PAGES_MAX < ArenaField::HolePages.get(meta) {
         return false;
     }
     if fields::fault::head_valid(meta, size) {
-        return fields::arena::held(meta) <= size;
+        return ArenaField::Held.get(meta) <= size;
     }
     false
 }
@@ -50,7 +51,7 @@ pub fn holes_valid(meta: &[u32]) -> bool
 {
     plans::all_end_valid(
         meta,
-        fields::arena::holes(meta),
-        fields::arena::frontier(meta),
+        ArenaField::Holes.get(meta),
+        ArenaField::Frontier.get(meta),
     )
 }

@@ -6,18 +6,16 @@ ghost use Rattle.arena.specs.Calls.{held_direct, every_direct};
 ghost use Rattle.runs.specs.way.Pre.{BookIn};
 
 use arena::DIRECT;
+use fields::arena::ArenaField;
+use fields::page::PageField;
 
 // The pages from `first` on get an owner.
 pub fn own(meta: &mut [u32], first: u32, pages: u32, owner: u32)
     requires { (words (first + pages) ≤ length meta.old) × (first + pages < 2 ^ 32) }
     ensures { meta.new ≡ own meta.old first pages owner }
 {
-    let mut p = first;
-    let mut left = pages;
-    while 0 < left {
-        fields::page::set_owner(meta, p, owner);
-        p += 1;
-        left -= 1;
+    for p in first..first + pages {
+        PageField::Owner.set(meta, p, owner);
     }
 }
 
@@ -29,7 +27,7 @@ fn all_direct(meta: &[u32], first: u32, pages: u32) -> bool
     let mut left = pages;
     while 0 < left {
         left -= 1;
-        if fields::page::owner(meta, first + left) != DIRECT {
+        if PageField::Owner.get(meta, first + left) != DIRECT {
             return false;
         }
     }
@@ -47,7 +45,7 @@ pub fn held_direct(meta: &[u32], size: u32, first: u64, pages: u64) -> bool
     if (size as u64) - pages < first {
         return false;
     }
-    if (fields::arena::frontier(meta) as u64) < first + pages {
+    if (ArenaField::Frontier.get(meta) as u64) < first + pages {
         return false;
     }
     all_direct(meta, first as u32, pages as u32)

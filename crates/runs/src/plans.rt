@@ -4,18 +4,16 @@ ghost use Rattle.facts.specs.Lists.{every};
 ghost use Rattle.model.specs.HoleStore.{hole_slots};
 ghost use Rattle.arena.specs.Load.{load_holes};
 ghost use Rattle.arena.specs.Valid.{hole_ends_valid, hole_valid};
-ghost use Rattle.runs.specs.way.Plan.{plan_of, Searches, neighbours_of};
+ghost use Rattle.runs.specs.way.Plan.{plan_of, chosen, neighbours_of};
 ghost use Rattle.runs.specs.way.Scan.{best_of, code_at, neighbours_from};
 
 use super::holes::{
     Best, Edges, HALF, Neighbours, better, hole_ends_valid, hole_from, hole_valid, neighbours_at,
     scan, touch,
 };
-use crate::{Arena, Choice};
+use crate::Arena;
 use model::Hole;
-
-// What a search answers where a hole is out of its range: it is beyond every code.
-pub const INVALID: u64 = 1 << 32;
+use words::refusal::Refusal;
 
 // What the least key says: its hole, if that has enough pages. Of one that has not, the pages beyond the need wrapped.
 fn code_at(need: u32, best: Best) -> u32
@@ -65,11 +63,17 @@ fn touch_part(part: [Hole; 4], i: u32, run: Edges, behind: Neighbours) -> Neighb
     touch(&part, i, 4, run, behind)
 }
 
-// The chosen hole's code, or `INVALID`: the first hole that is out of its range ends it. The holes are looked at in
+// The chosen hole's index: the first hole that is out of its range ends it. The holes are looked at in
 // parts of four; fewer than four are left at the end, and are weighed one by one, for they would cost as much as four.
-pub fn search(meta: &[u32], count: u32, total: u32, frontier: u32, pages: u32) -> u64
+pub fn search(
+    meta: &[u32],
+    count: u32,
+    total: u32,
+    frontier: u32,
+    pages: u32,
+) -> Result<Option<u32>, Refusal>
     requires { (count ≤ hole_slots) × (40000 ≤ length meta.now) }
-    ensures { Searches (plan_of (load_holes meta.now 0 count) total frontier pages) result }
+    ensures { result ≡ chosen (plan_of (load_holes meta.now 0 count) total frontier pages) }
 {
     let mut best = Best {
         key: u64::MAX,
@@ -80,7 +84,7 @@ pub fn search(meta: &[u32], count: u32, total: u32, frontier: u32, pages: u32) -
         left -= 4;
         let part = part_at(meta, left);
         if !part_valid(part, total, frontier) {
-            return INVALID;
+            return Err(Refusal::BookWord);
         }
         best = scan_part(part, left, pages, best);
     }
@@ -88,35 +92,25 @@ pub fn search(meta: &[u32], count: u32, total: u32, frontier: u32, pages: u32) -
         left -= 1;
         let h = hole_from(meta, left);
         if !hole_valid(h, total, frontier) {
-            return INVALID;
+            return Err(Refusal::BookWord);
         }
         best = better(pages, left, h, best);
     }
-    code_at(pages, best) as u64
+    match code_at(pages, best) {
+        0 => Ok(None),
+        code => Ok(Some(code - 1)),
+    }
 }
 
 // With no hole stored none is read.
-pub fn plan(meta: &[u32], a: Arena, pages: u32) -> Choice
+pub fn plan(meta: &[u32], a: Arena, pages: u32) -> Result<Option<u32>, Refusal>
     requires { (a.count ≤ hole_slots) × (40000 ≤ length meta.now) }
-    ensures { result ≡ plan_of (load_holes meta.now 0 a.count) a.total a.frontier pages }
+    ensures { result ≡ chosen (plan_of (load_holes meta.now 0 a.count) a.total a.frontier pages) }
 {
     if a.count == 0 {
-        return Choice {
-            valid: true,
-            code: 0,
-        };
+        return Ok(None);
     }
-    let code = search(meta, a.count, a.total, a.frontier, pages);
-    if code == INVALID {
-        return Choice {
-            valid: false,
-            code: 0,
-        };
-    }
-    Choice {
-        valid: true,
-        code: code as u32,
-    }
+    search(meta, a.count, a.total, a.frontier, pages)
 }
 
 // Is every hole in a give's range. None ends the loop, so that it takes several at a time.

@@ -4,7 +4,6 @@ ghost use Rattle.model.specs.Arena.{more};
 ghost use Rattle.runs.specs.way.Change.{drawn_by, gained_by};
 
 use crate::Arena;
-use std::num::wrapping_add_u64;
 
 // What a commit comes to: the state and the number of holes that it leaves, the pages that the frontier moves on by or that the
 // holes lose, and whether it is counted, as a commit and as a reuse.
@@ -27,16 +26,10 @@ pub struct Gain {
 }
 
 // A count and one, kept to 64 bits.
-fn one_more(n: u64) -> u64
-    ensures { result ≡ more n }
-{
-    wrapping_add_u64(n, 1)
-}
-
 fn more_if(n: u64, so: bool) -> u64
     ensures { result ≡ (if so then more n else n) }
 {
-    if so { one_more(n) } else { n }
+    if so { n.wrapping_add(1) } else { n }
 }
 
 fn drawn(a: Arena, d: Draw) -> Arena

@@ -8,24 +8,26 @@ ghost use Rattle.runs.specs.way.Record.{store_record};
 
 use super::record::{Draw, Gain};
 use super::{Arena, record};
+use fields::arena::{ArenaField, Counter};
+use fields::hole::HoleField;
 
 fn store_counts(meta: &mut [u32], a: Arena)
     requires { 40000 ≤ length meta.old }
     ensures { meta.new ≡ store_counts meta.old a.commits a.reuses a.abandoned }
 {
-    fields::arena::set_commits(meta, a.commits);
-    fields::arena::set_reuses(meta, a.reuses);
-    fields::arena::set_abandoned(meta, a.abandoned);
+    Counter::Commits.set(meta, a.commits);
+    Counter::Reuses.set(meta, a.reuses);
+    Counter::Abandoned.set(meta, a.abandoned);
 }
 
 fn store_top(meta: &mut [u32], a: Arena)
     requires { 40000 ≤ length meta.old }
     ensures { meta.new ≡ store_top meta.old a.state a.frontier a.count a.total }
 {
-    fields::arena::set_state(meta, a.state);
-    fields::arena::set_frontier(meta, a.frontier);
-    fields::arena::set_holes(meta, a.count);
-    fields::arena::set_hole_pages(meta, a.total);
+    ArenaField::State.set(meta, a.state);
+    ArenaField::Frontier.set(meta, a.frontier);
+    ArenaField::Holes.set(meta, a.count);
+    ArenaField::HolePages.set(meta, a.total);
 }
 
 pub fn store_record(meta: &mut [u32], a: Arena)
@@ -58,6 +60,6 @@ pub fn store_hole(meta: &mut [u32], i: u32, first: u32, pages: u32)
     requires { (40000 ≤ length meta.old) × (i < hole_slots) }
     ensures { meta.new ≡ store_hole meta.old i (hole first pages) }
 {
-    fields::hole::set_start(meta, i, first);
-    fields::hole::set_pages(meta, i, pages);
+    HoleField::Start.set(meta, i, first);
+    HoleField::Pages.set(meta, i, pages);
 }

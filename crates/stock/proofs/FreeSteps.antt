@@ -26,17 +26,19 @@ far-away x h = rw (lt-leb (2 ^ 62) x h)
 -- x is how far the word lies behind the class's first
 module _ (c w x : ℕ) (ex : (x + block_word (shape_of (pool_id c)).kind 0) % 2 ^ 64 ≡ w) (fit : x < 2 ^ 64) where
   module _ (n : ℕ) (b : List ℕ) (h : ℕ) where
-    pub free-far : (r : ℕ) → 4096 * n ≤ x → r ≡ far_fault x → FreeEnds (free_on n b c h w) r b
+    pub free-far : (m r : ℕ) → m ≡ n → 4096 * m ≤ x → r ≡ far_fault x → FreeEnds (free_on n b c h w) r b
     unfolding free_on
-    free-far r l e =
+    free-far m r q y e =
+        let l : 4096 * n ≤ x = rw (← q) y in
         by_cases (leb (2 ^ 62) x)
         (λ t. rw (far-kind c w x ex fit t) (record { code = e ∙ rw t; book = refl }))
         (λ t.
         let s = leb-false (2 ^ 62) x t in
         rw (near-kind c w x ex fit s, far-out c w x ex fit n b l s) (record { code = e ∙ rw t; book = refl }))
 
-    pub free-near : PoolPre n b c → x < 4096 * n → NearPre n b c x w
-    free-near a l =
+    pub free-near : (m : ℕ) → m ≡ n → PoolPre n b c → x < 4096 * m → NearPre n b c x w
+    free-near m q a y =
+        let l : x < 4096 * n = rw (← q) y in
         let s : x < 2 ^ 62 = omega (arith, a.few) in
         record { known = a.known; few = a.few; long = a.long; low = l; granule = behind-granule c w x ex fit s; kind = behind-kind c w x ex fit s }
 
@@ -101,10 +103,13 @@ module _ (n : ℕ) (b : List ℕ) (c g w : ℕ) (a : FreePre n b c g w) where
 
   -- it is not
   module _ (k : ℕ) (ek : k ≡ count_in b c) (spare : is_full c k ≡ false) (o : Bool) (eo : o ≡ out_at n b (pool_id c) (shape_of (pool_id c)) w) where
-    pub keep_absent : o ≡ false → Kept 10 b n b c w
-    keep_absent z = record { ends = λ h. rw (free-is h, ← eo, z) (record { code = refl; book = refl }) }
+    pub keep_absent : not o ≡ true → Kept 10 b n b c w
+    keep_absent z = record { ends = λ h. rw (free-is h, ← eo, not-true o z) (record { code = refl; book = refl }) }
 
-    module _ (z : o ≡ true) where
+    module _ (y : not o ≡ false) where
+      z : o ≡ true
+      z = not-false o y
+
       pub keep-beyond : 255 < k → Kept 13 b n b c w
       unfolding freed_on count_valid
       keep-beyond l =

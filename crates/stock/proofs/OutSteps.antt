@@ -1,7 +1,8 @@
 -- The ways out of the tests whether a word is a block out in the class.
-use Rattle.facts.proofs.Prelude.{ℕ, suc, ◌+◌, ◌-◌, ◌*◌, ◌/◌, ◌%◌, ◌^◌, ◌≤◌, ◌<◌, arith, add-zero, div-add-mod', le-div_iff_mul-le, Bool, true, false}
+use Rattle.facts.proofs.Prelude.{ℕ, suc, ◌+◌, ◌-◌, ◌*◌, ◌/◌, ◌%◌, ◌^◌, ◌≤◌, ◌<◌, arith, add-zero, div-add-mod', le-div_iff_mul-le, Bool, true, false, not, not-true, not-false}
 use Rattle.facts.proofs.Prelude.{◌&&◌, and-true, true≢false, List, ◌≡◌, refl, sym, ap, ◌∙◌, eqb, ltb, leb, length, lt-ltb, le-ltb, le-leb, lt-leb, eq-eqb}
 use Rattle.facts.proofs.Prelude.{ne_eqb, eqb-true, leb-true, leb-false, ltb-true, ltb-false, every, below, by_cases, and_left, and_right, every-at}
+use Rattle.std.specs.Prelude.{Option, Some, None, is_some}
 use Rattle.std.proofs.Common.{w32, Fits}
 use Rattle.words.specs.Word.{granule_of}
 use Rattle.classes.specs.declared.Shape.{Shape}
@@ -14,44 +15,35 @@ use Rattle.pages.specs.Runs.{whole}
 use Rattle.pages.specs.Stack.{page_at, blocks_from, index_of, is_block}
 use Rattle.calls.specs.Out.{start_of, in_run_of, out_in, out_at}
 use Rattle.lists.proofs.InverseLaws.{narrow}
-use Rattle.release.specs.declared.Found.{Found}
-use Rattle.release.specs.declared.Found.TheVariants.{At, Nothing}
-use Rattle.release.specs.declared.Out.{Out}
-use Rattle.release.specs.declared.Out.TheVariants.{Block, Nowhere}
+use Rattle.release.specs.declared.Place.{Place}
 use Rattle.release.specs.way.Blocks.{block_at, find_out}
 use Rattle.release.proofs.BlockSteps.{none_found, found_at}
 use Rattle.release.proofs.Bits.{below_capacity}
-use Rattle.release.proofs.OutSteps.{not-out, is-out}
+use Rattle.release.proofs.OutSteps.{out-told}
 use Rattle.stock.specs.way.Pre.{PagePre, SmallPre}
 
 -- ---- by the run that has the word's granule
-found-block : (sh : Shape) (q w : ℕ) (f : Found) (i : ℕ) → f ≡ block_at sh q w → f ≡ At i → (is_block sh q w ≡ true) × (i ≡ index_of sh q w)
-found-block sh q w f i e h = found_at (is_block sh q w) (index_of sh q w) i (sym h ∙ e)
+found-block : (sh : Shape) (q w i : ℕ) → Some i ≡ block_at sh q w → (is_block sh q w ≡ true) × (i ≡ index_of sh q w)
+found-block sh q w i h = found_at (is_block sh q w) (index_of sh q w) i h
 
-has-bit : (b : List ℕ) (sh : Shape) (q w : ℕ) (f : Found) (i : ℕ) → Sound sh → words (q + 1) ≤ length b → f ≡ block_at sh q w → f ≡ At i → Has b (out q i)
-has-bit b sh q w f i s l e h =
-    let z = found-block sh q w f i e h in
+has-bit : (b : List ℕ) (sh : Shape) (q w i : ℕ) → Sound sh → words (q + 1) ≤ length b → Some i ≡ block_at sh q w → Has b (out q i)
+has-bit b sh q w i s l h =
+    let z = found-block sh q w i h in
     omega (arith, below_capacity sh q w z.0, z.1, s.few)
 
-module _ (b : List ℕ) (sh : Shape) (q w : ℕ) (f : Found) (e : f ≡ block_at sh q w) where
-  pub out-no_block : f ≡ Nothing → false ≡ out_in b sh q w
+module _ (b : List ℕ) (sh : Shape) (q w : ℕ) where
+  pub out-no_block : None ≡ block_at sh q w → false ≡ out_in b sh q w
   unfolding out_in
-  out-no_block h = rw (none_found (is_block sh q w) (index_of sh q w) (sym h ∙ e))
+  out-no_block h = rw (none_found (is_block sh q w) (index_of sh q w) h)
 
-  pub out-bit : (i : ℕ) → f ≡ At i → (x : ℕ) → x ≡ get b (out q i) → eqb x 1 ≡ out_in b sh q w
+  pub out-bit : (i : ℕ) → Some i ≡ block_at sh q w → (x : ℕ) → x ≡ get b (out q i) → eqb x 1 ≡ out_in b sh q w
   unfolding out_in
-  out-bit i h x k = let z = found-block sh q w f i e h in rw (z.0, ← z.1, k)
+  out-bit i h x k = let z = found-block sh q w i h in rw (z.0, ← z.1, k)
 
 -- ---- by the heap's own look for it; d is the class's id
-module _ (n : ℕ) (b : List ℕ) (c d : ℕ) (ed : d ≡ pool_id c) (sh : Shape) (es : sh ≡ shape_of d) (w : ℕ) (f : Out) (e : f ≡ find_out n b d sh w) where
-  by_id : out_at n b d sh w ≡ out_at n b (pool_id c) (shape_of (pool_id c)) w
-  by_id = rw (es, ed)
-
-  pub out-nowhere : f ≡ Nowhere → false ≡ out_at n b (pool_id c) (shape_of (pool_id c)) w
-  out-nowhere h = sym (not-out n b d sh w f e h) ∙ by_id
-
-  pub out-block : (q i : ℕ) → f ≡ Block q i → true ≡ out_at n b (pool_id c) (shape_of (pool_id c)) w
-  out-block q i h = sym (is-out n b d sh w f e q i h).out ∙ by_id
+module _ (n : ℕ) (b : List ℕ) (c d : ℕ) (ed : d ≡ pool_id c) (sh : Shape) (es : sh ≡ shape_of d) (w : ℕ) (f : Option Place) (e : f ≡ find_out n b d sh w) where
+  pub out-is_some : (r : Bool) → r ≡ is_some f → r ≡ out_at n b (pool_id c) (shape_of (pool_id c)) w
+  out-is_some r h = h ∙ out-told n b d sh w f e ∙ rw (es, ed)
 
 -- ---- a small class: its runs are one page, its blocks begin behind 3 granules
 module _ (c : ℕ) (h : c < 64) where
@@ -84,8 +76,8 @@ module _ (n : ℕ) (b : List ℕ) (c p : ℕ) (a : PagePre n b c p) where
     page-past h = sym (whole-page ∙ rw (← ef, le-ltb p f h))
 
     module _ (h : p < f) (o d : ℕ) (eo : o ≡ get b (page owner p)) (ed : d ≡ pool_id c) where
-      pub page-other : (o ≡ d + 1 → ⊥) → false ≡ whole n b (shape_of (pool_id c)) (pool_id c) p
-      page-other other = sym (whole-page ∙ rw (← ef, lt-ltb p f h, ← eo, ne_eqb o (suc (pool_id c)) (λ z. other (omega arith))))
+      pub page-other : (o ≡ d + 1 → ⊥) → eqb o (d + 1) ≡ whole n b (shape_of (pool_id c)) (pool_id c) p
+      page-other other = ne_eqb o (d + 1) other ∙ sym (whole-page ∙ rw (← ef, lt-ltb p f h, ← eo, ne_eqb o (suc (pool_id c)) (λ z. other (omega arith))))
 
       pub page-own : o ≡ d + 1 → (q : ℕ) → q ≡ get b (page first p) → eqb q p ≡ whole n b (shape_of (pool_id c)) (pool_id c) p
       page-own own q eq = sym (whole-page ∙ rw (← ef, lt-ltb p f h, ← eo, eq-eqb o (suc (pool_id c)) (omega arith), ← eq))
@@ -143,7 +135,7 @@ module _ (c w : ℕ) (small : c < 64) (sh : Shape) (en : sh ≡ shape_of c) (x :
     unfolding is_block
     here = rw (from, index-here, difference)
 
-  none-at : is_block (shape_of (pool_id c)) (page_at w) w ≡ false → Nothing ≡ block_at (shape_of (pool_id c)) (page_at w) w
+  none-at : is_block (shape_of (pool_id c)) (page_at w) w ≡ false → None ≡ block_at (shape_of (pool_id c)) (page_at w) w
   none-at e = rw e
 
   -- 3 or more, or in the header
@@ -160,7 +152,7 @@ module _ (c w : ℕ) (small : c < 64) (sh : Shape) (en : sh ≡ shape_of c) (x :
       (λ t. let q : (y / (shape_of (pool_id c)).block + 1) * (shape_of (pool_id c)).block ≤ 4093 = (le-div_iff_mul-le wide).0 (leb-true (y / (shape_of (pool_id c)).block + 1) (4093 / (shape_of (pool_id c)).block) t) in absurd (omega arith))
       (λ t. let q = leb-false (y / (shape_of (pool_id c)).block + 1) (4093 / (shape_of (pool_id c)).block) t in omega (arith, capacity_is))
 
-  pub small-past : 4093 < y + sh.block → Nothing ≡ block_at (shape_of (pool_id c)) (page_at w) w
+  pub small-past : 4093 < y + sh.block → None ≡ block_at (shape_of (pool_id c)) (page_at w) w
   small-past g =
       let k : 4093 < y + (shape_of (pool_id c)).block = rw (← es) g in
       none-at
@@ -170,12 +162,12 @@ module _ (c w : ℕ) (small : c < 64) (sh : Shape) (en : sh ≡ shape_of c) (x :
       (λ t. rw t)))
 
   -- not the first granule of a block
-  pub small-between : y + sh.block ≤ 4093 → (y % sh.block ≡ 0 → ⊥) → Nothing ≡ block_at (shape_of (pool_id c)) (page_at w) w
+  pub small-between : y + sh.block ≤ 4093 → (y % sh.block ≡ 0 → ⊥) → None ≡ block_at (shape_of (pool_id c)) (page_at w) w
   small-between g d =
       let part : y / (shape_of (pool_id c)).block * (shape_of (pool_id c)).block ≡ y → ⊥ = λ z. d (rw es (omega (arith, div-add-mod' y (shape_of (pool_id c)).block))) in
       none-at (sides header_none (λ l. here l ∙ rw (ne_eqb (y / (shape_of (pool_id c)).block * (shape_of (pool_id c)).block) y part)))
 
-  pub small-found : y + sh.block ≤ 4093 → y % sh.block ≡ 0 → At (y / sh.block) ≡ block_at (shape_of (pool_id c)) (page_at w) w
+  pub small-found : y + sh.block ≤ 4093 → y % sh.block ≡ 0 → Some (y / sh.block) ≡ block_at (shape_of (pool_id c)) (page_at w) w
   small-found g z =
       let k : y + (shape_of (pool_id c)).block ≤ 4093 = rw (← es) g in
       let r : y % (shape_of (pool_id c)).block ≡ 0 = rw (← es) z in
@@ -206,14 +198,14 @@ module _ (n : ℕ) (b : List ℕ) (c w p : ℕ) (a : SmallPre n b c w) (ep : p �
       rw (← (run-starts t)) (and_right (ltb (page_at w) (start_of b w + (shape_of (pool_id c)).pages)) _ (and_right (leb (start_of b w) (page_at w)) _ t₁))
 
   module _ (o : Bool) (eo : o ≡ whole n b (shape_of (pool_id c)) (pool_id c) p) where
-    pub small-away : o ≡ false → false ≡ out_at n b (pool_id c) (shape_of (pool_id c)) w
+    pub small-away : not o ≡ true → false ≡ out_at n b (pool_id c) (shape_of (pool_id c)) w
     unfolding out_at
     small-away z =
-        by_cases (in_run_of n b (shape_of (pool_id c)) (pool_id c) w) (λ t. absurd (let u : true ≡ false = sym (run-whole t) ∙ sym eo ∙ z in true≢false u)) (λ t. rw t)
+        by_cases (in_run_of n b (shape_of (pool_id c)) (pool_id c) w) (λ t. absurd (let u : true ≡ false = sym (run-whole t) ∙ sym eo ∙ not-true o z in true≢false u)) (λ t. rw t)
 
-    module _ (z : o ≡ true) where
+    module _ (z : not o ≡ false) where
       w-whole : whole n b (shape_of (pool_id c)) (pool_id c) p ≡ true
-      w-whole = sym eo ∙ z
+      w-whole = sym eo ∙ not-false o z
 
       starts : start_of b w ≡ p
       unfolding start_of
@@ -231,16 +223,15 @@ module _ (n : ℕ) (b : List ℕ) (c w p : ℕ) (a : SmallPre n b c w) (ep : p �
       unfolding out_at
       out-here = rw (in_run_lem, starts)
 
-      module _ (f : Found) (e : f ≡ block_at (shape_of (pool_id c)) (page_at w) w) where
-        at-run : f ≡ block_at (shape_of (pool_id c)) p w
-        at-run = rw ep e
+      pub small-no_block : None ≡ block_at (shape_of (pool_id c)) (page_at w) w → false ≡ out_at n b (pool_id c) (shape_of (pool_id c)) w
+      small-no_block h = out-no_block b (shape_of (pool_id c)) p w (rw ep h) ∙ sym out-here
 
-        pub small-no_block : f ≡ Nothing → false ≡ out_at n b (pool_id c) (shape_of (pool_id c)) w
-        small-no_block h = out-no_block b (shape_of (pool_id c)) p w f at-run h ∙ sym out-here
+      module _ (i : ℕ) (h : Some i ≡ block_at (shape_of (pool_id c)) (page_at w) w) where
+        at-run : Some i ≡ block_at (shape_of (pool_id c)) p w
+        at-run = rw ep h
 
-        module _ (i : ℕ) (h : f ≡ At i) where
-          pub small-has_bit : Has b (out p i)
-          small-has_bit = has-bit b (shape_of (pool_id c)) p w f i (shape-sound (pool_id c)) (omega (arith, page-pre.below, a.long)) at-run h
+        pub small-has_bit : Has b (out p i)
+        small-has_bit = has-bit b (shape_of (pool_id c)) p w i (shape-sound (pool_id c)) (omega (arith, page-pre.below, a.long)) at-run
 
-          pub small-bit : (x : ℕ) → x ≡ get b (out p i) → eqb x 1 ≡ out_at n b (pool_id c) (shape_of (pool_id c)) w
-          small-bit x k = out-bit b (shape_of (pool_id c)) p w f at-run i h x k ∙ sym out-here
+        pub small-bit : (x : ℕ) → x ≡ get b (out p i) → eqb x 1 ≡ out_at n b (pool_id c) (shape_of (pool_id c)) w
+        small-bit x k = out-bit b (shape_of (pool_id c)) p w i at-run x k ∙ sym out-here

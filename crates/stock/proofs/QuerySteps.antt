@@ -76,9 +76,9 @@ module _ (c w x : ℕ) (ex : (x + block_word (shape_of (pool_id c)).kind 0) % 2 
         near-stocked : stocked b c (granule_of w) ≡ s
         near-stocked = rw (← (behind-granule near)) (sym es)
 
-        pub granted-stocked : s ≡ true → false ≡ (format_valid b && (of_kind (shape_of (pool_id c)).kind w && granted_in n b c w))
-        granted-stocked z = rw (near-kind near, near-stocked, z, and_no (out_at n b (pool_id c) (shape_of (pool_id c)) w)) (sym (and_no (format_valid b)))
+        pub granted-stocked : not s ≡ false → not s ≡ (format_valid b && (of_kind (shape_of (pool_id c)).kind w && granted_in n b c w))
+        granted-stocked z = rw (near-kind near, near-stocked, not-false s z, and_no (out_at n b (pool_id c) (shape_of (pool_id c)) w)) (sym (and_no (format_valid b)))
 
-        pub granted-out : (f : Bool) → f ≡ format_valid b → not f ≡ false → (o : Bool) → s ≡ false → o ≡ out_at n b (pool_id c) (shape_of (pool_id c)) w
+        pub granted-out : (f : Bool) → f ≡ format_valid b → not f ≡ false → (o : Bool) → not s ≡ true → o ≡ out_at n b (pool_id c) (shape_of (pool_id c)) w
             → o ≡ (format_valid b && (of_kind (shape_of (pool_id c)).kind w && granted_in n b c w))
-        granted-out f e u o z eo = rw (← e, not-false f u, near-kind near, near-stocked, z, ← eo) (sym (and-true o))
+        granted-out f e u o z eo = rw (← e, not-false f u, near-kind near, near-stocked, not-true s z, ← eo) (sym (and-true o))

@@ -18,11 +18,8 @@ block-most : (c : ℕ) → (shape_of (pool_id c)).block ≤ 4096
 block-most c = omega (arith, granules-are c (block_bytes c) refl, most_bytes c (block_bytes c) refl)
 
 module _ (n c g : ℕ) where
-  pub ends-early : g + 4096 ≤ 4096 * n → true ≡ leb (g + (shape_of (pool_id c)).block) (4096 * n)
-  ends-early h = sym (le-leb (g + (shape_of (pool_id c)).block) (4096 * n) (omega (arith, block-most c)))
-
-  pub ends-told : (s : ℕ) → s ≡ (shape_of (pool_id c)).block → leb (g + s) (4096 * n) ≡ leb (g + (shape_of (pool_id c)).block) (4096 * n)
-  ends-told s e = rw e
+  pub ends-early : (s e : ℕ) → s ≡ g → e ≡ n → s + 4096 ≤ 4096 * e → leb (s + 4096) (4096 * e) ≡ leb (g + (shape_of (pool_id c)).block) (4096 * n)
+  ends-early s e p q h = le-leb (s + 4096) (4096 * e) h ∙ sym (le-leb (g + (shape_of (pool_id c)).block) (4096 * n) (omega (arith, block-most c)))
 
 module _ (n : ℕ) (b : List ℕ) (c k : ℕ) (e : k ≡ count_in b c) where
   pub top-over : 255 < k → false ≡ top_valid n b c
@@ -34,7 +31,7 @@ module _ (n : ℕ) (b : List ℕ) (c k : ℕ) (e : k ≡ count_in b c) where
     unfolding top_valid count_valid
     top_within y t u = rw (← e, le-leb k 255 h, ← f, ← i, y, ← u) (sym (and-true t))
 
-    pub top-past : s ≡ false → false ≡ top_valid n b c
+    pub top-past : s ≡ false → s ≡ top_valid n b c
     unfolding top_valid count_valid
     top-past y = rw (← e, le-leb k 255 h, ← f, ← i, y) (sym (and_no (format_valid b)))
 
@@ -50,8 +47,9 @@ pub kind-medium : (c : ℕ) → 64 ≤ c → 2 ≡ (shape_of (pool_id c)).kind
 unfolding medium_shape
 kind-medium c h = rw (shape-pool c, le-ltb c 64 h)
 
-pub word-is : (c k g w : ℕ) → k ≡ (shape_of (pool_id c)).kind → g < 2 ^ 32 → w ≡ pack_block k g → w ≡ block_word (shape_of (pool_id c)).kind g
-word-is c k g w e h q =
+pub word-is : (c k g i w : ℕ) → k ≡ (shape_of (pool_id c)).kind → g < 2 ^ 32 → i ≡ g → w ≡ pack_block k i → w ≡ block_word (shape_of (pool_id c)).kind g
+word-is c k g i w e h j x =
+    let q : w ≡ pack_block k g = rw j at x in
     let a : (shape_of (pool_id c)).kind % 2 ^ 2 ≡ (shape_of (pool_id c)).kind = mod-eq_of_lt (omega (arith, (shape-sound (pool_id c)).known)) in
     let d : g % 2 ^ 62 ≡ g = mod-eq_of_lt (omega arith) in
     q ∙ ap (λ z. pack_block z g) e ∙ ap (λ z. block_word z (g % 2 ^ 62)) a ∙ ap (block_word (shape_of (pool_id c)).kind) d

@@ -1,25 +1,23 @@
 // One block back to the heap.
 ghost use Rattle.std.specs.Prelude.{[], ◌∷◌};
+ghost use Rattle.words.specs.Refusal.{code_of};
 ghost use Rattle.classes.specs.Shape.{shape_of, pool_id};
 ghost use Rattle.calls.specs.Release.{release_blocks};
 ghost use Rattle.stock.specs.way.Ends.{ReleasedOne};
 ghost use Rattle.stock.specs.way.Pre.{PoolPre};
 
 use classes::pool_id;
-use release::Released;
+use words::refusal::Refusal;
 
-// The release of one block: 0, or its number. A list is made only where `release_one` does not carry it out.
-pub fn give(meta: &mut [u32], n: u32, c: u32, host: u32, w: u64) -> u32
+// The release of one block. A list is made only where `release_one` does not carry it out.
+pub fn give(meta: &mut [u32], n: u32, c: u32, host: u32, w: u64) -> Result<(), Refusal>
     requires { PoolPre n meta.old c }
-    ensures { ReleasedOne result meta.new (release_blocks n meta.old (pool_id c) (shape_of (pool_id c)) host (w ∷ [])) }
+    ensures { ReleasedOne (code_of result) meta.new (release_blocks n meta.old (pool_id c) (shape_of (pool_id c)) host (w ∷ [])) }
 {
     let id = pool_id(c);
     if release::release_one(meta, n, id, w) {
-        return 0;
+        return Ok(());
     }
-    let list = [w];
-    match release::release_list(meta, n, id, host, &list) {
-        Released::Refused(k) => k,
-        Released::Fate(_) => 0,
-    }
+    release::release_list(meta, n, id, host, &[w])?;
+    Ok(())
 }

@@ -9,8 +9,10 @@ ghost use Rattle.release.specs.way.Blocks.{block_at};
 ghost use Rattle.stock.specs.way.Pre.{PagePre, SmallPre, PoolPre};
 
 use classes::{pool_id, shape_of};
+use fields::arena::ArenaField;
+use fields::page::PageField;
 use pages::page_within;
-use release::{Found, Out, find_out};
+use release::find_out;
 
 // For any class.
 pub fn out_at(meta: &[u32], n: u32, c: u32, w: u64) -> bool
@@ -19,11 +21,7 @@ pub fn out_at(meta: &[u32], n: u32, c: u32, w: u64) -> bool
 {
     let id = pool_id(c);
     let shape = shape_of(id);
-    let found = find_out(meta, n, id, shape, w);
-    let Out::Block(_, _) = found else {
-        return false;
-    };
-    true
+    find_out(meta, n, id, shape, w).is_some()
 }
 
 // Page p is a run of the small class.
@@ -31,14 +29,11 @@ fn is_run(meta: &[u32], n: u32, c: u32, p: u32) -> bool
     requires { PagePre n meta.now c p }
     ensures { result ≡ whole n meta.now (shape_of (pool_id c)) (pool_id c) p }
 {
-    if p >= fields::arena::frontier(meta) {
+    if p >= ArenaField::Frontier.get(meta) {
         return false;
     }
     let id = pool_id(c);
-    if fields::page::owner(meta, p) != id + 1 {
-        return false;
-    }
-    fields::page::first(meta, p) == p
+    PageField::Owner.get(meta, p) == id + 1 && PageField::First.get(meta, p) == p
 }
 
 // Granules of a small page behind its header.
@@ -46,19 +41,19 @@ const ROOM: u32 = 4093;
 
 // The index of the small block that the word names, were its page a run of the class. The header is 3 granules; what lies in it wraps to behind the
 // blocks.
-fn small_at(c: u32, w: u64) -> Found
+fn small_at(c: u32, w: u64) -> Option<u32>
     requires { c < 64 }
     ensures { result ≡ block_at (shape_of (pool_id c)) (page_at w) w }
 {
     let shape = shape_of(c);
     let y = (std::num::wrapping_sub_u64(w, 3) % 4096) as u32;
     if y + shape.block > ROOM {
-        return Found::Nothing;
+        return None;
     }
     if y % shape.block != 0 {
-        return Found::Nothing;
+        return None;
     }
-    Found::At(y / shape.block)
+    Some(y / shape.block)
 }
 
 // A small class has a way of its own, since its runs are one page: a fifth less than by `out_at`.
@@ -67,14 +62,13 @@ fn small_out(meta: &[u32], n: u32, c: u32, w: u64) -> bool
     ensures { result ≡ out_at n meta.now (pool_id c) (shape_of (pool_id c)) w }
 {
     let p = page_within(w);
-    if is_run(meta, n, c, p) {
-        let block = small_at(c, w);
-        let Found::At(i) = block else {
-            return false;
-        };
-        return fields::out::bit(meta, p, i) == 1;
+    if !is_run(meta, n, c, p) {
+        return false;
     }
-    false
+    match small_at(c, w) {
+        Some(i) => fields::out::bit(meta, p, i) == 1,
+        None => false,
+    }
 }
 
 // Of a word whose granule is in the arena.

@@ -1,5 +1,5 @@
 // Blocks in a stock, by their granules.
-ghost use Rattle.std.specs.Prelude.{◌≡◌, ◌*◌, ◌<◌, take};
+ghost use Rattle.std.specs.Prelude.{◌≡◌, ◌*◌, ◌<◌};
 ghost use Rattle.words.specs.Word.{granule_of};
 ghost use Rattle.poolcalls.specs.Stock.{count_in, stocked, put, pushed, put_all};
 ghost use Rattle.stock.specs.way.Pre.{GranulePre, ListPre, PoolPre};
@@ -13,10 +13,7 @@ pub fn is_stocked(meta: &[u32], n: u32, c: u32, g: u32) -> bool
     ensures { result ≡ stocked meta.now c g }
 {
     let k = place(meta, g);
-    if k < count(meta, c) {
-        return entry(meta, c, k) == g;
-    }
-    false
+    k < count(meta, c) && entry(meta, c, k) == g
 }
 
 // Granule g comes into place k; COUNT stays.
@@ -50,15 +47,13 @@ fn put_block(meta: &mut [u32], n: u32, c: u32, k: u32, w: u64)
     put(meta, n, c, k, Word::of(w).granule() as u32);
 }
 
-// The first m blocks of the list come into the first m places.
-pub fn put_all(meta: &mut [u32], n: u32, c: u32, list: &[u64], m: u32)
+// The blocks of the list come into the first places.
+pub fn put_all(meta: &mut [u32], n: u32, c: u32, list: &[u64])
     requires pool_pre { PoolPre n meta.old c }
-    requires list_pre { ListPre n list.now m }
-    ensures { meta.new ≡ put_all meta.old c 0 (take m list.now) }
+    requires list_pre { ListPre n list.now }
+    ensures { meta.new ≡ put_all meta.old c 0 list.now }
 {
-    let mut k: u32 = 0;
-    while k < m {
-        put_block(meta, n, c, k, list[k as usize]);
-        k += 1;
+    for (k, w) in list.iter().enumerate() {
+        put_block(meta, n, c, k as u32, *w);
     }
 }

@@ -26,16 +26,13 @@ pub fn granted(meta: &[u32], n: u32, c: u32, w: u64) -> bool
     ensures { result ≡ (format_valid meta.now && (of_kind (shape_of (pool_id c)).kind w && granted_in n meta.now c w)) }
 {
     let x = behind(c, w);
-    if x >= 4096 * (n as u64) {
+    if x >= 4096 * u64::from(n) {
         return false;
     }
     if !fields::fault::format_valid(meta) {
         return false;
     }
-    if is_stocked(meta, n, c, x as u32) {
-        return false;
-    }
-    out_at(meta, n, c, w)
+    !is_stocked(meta, n, c, x as u32) && out_at(meta, n, c, w)
 }
 
 // COUNT; 0 where it or FORMAT is out of its range.
@@ -48,7 +45,8 @@ pub fn stocked(meta: &[u32], c: u32) -> u32
         return 0;
     }
     if fields::fault::format_valid(meta) {
-        return k;
+        k
+    } else {
+        0
     }
-    0
 }

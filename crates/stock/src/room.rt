@@ -40,8 +40,5 @@ fn has_room(c: u32, k: u32) -> bool
 pub fn is_full(c: u32, k: u32) -> bool
     ensures { result ≡ is_full c k }
 {
-    if k > COUNT_MAX {
-        return false;
-    }
-    !has_room(c, k)
+    k <= COUNT_MAX && !has_room(c, k)
 }

@@ -24,11 +24,9 @@ const PAGE: u64 = 4096;
 fn ends_within(n: u32, c: u32, g: u32) -> bool
     ensures { result ≡ nat_le (g + (shape_of (pool_id c)).block) (4096 * n) }
 {
-    let end = 4096 * (n as u64);
-    if g as u64 + PAGE <= end {
-        return true;
-    }
-    g as u64 + block_granules(c) as u64 <= end
+    let start = u64::from(g);
+    let end = 4096 * u64::from(n);
+    start + PAGE <= end || start + u64::from(block_granules(c)) <= end
 }
 
 // Number 13 does not apply to a stock of k blocks: COUNT, the ENTRY on top, whose block lies in the arena whole, and FORMAT are in their ranges.
@@ -39,10 +37,7 @@ pub fn top_valid(meta: &[u32], n: u32, c: u32, k: u32) -> bool
     if k > COUNT_MAX {
         return false;
     }
-    if ends_within(n, c, entry(meta, c, k - 1)) {
-        return fields::fault::format_valid(meta);
-    }
-    false
+    ends_within(n, c, entry(meta, c, k - 1)) && fields::fault::format_valid(meta)
 }
 
 // The class's kind: small below 64.
@@ -56,6 +51,5 @@ pub fn kind_of(c: u32) -> u32
 pub fn block_word(c: u32, g: u32) -> u64
     ensures { result ≡ block_word (shape_of (pool_id c)).kind g }
 {
-    let word = Word::block(kind_of(c), g as u64);
-    word.bits
+    Word::block(kind_of(c), u64::from(g)).bits
 }

@@ -1,8 +1,11 @@
--- What a class table's call answers and leaves, by each of its tests. Of a test s is what it answered, and what the function that
--- tests it ensures.
-use Rattle.facts.proofs.Prelude.{ℕ, ◌%◌, ◌≤◌, ◌<◌, pos_of_ne-zero, Bool, true, false, not, ◌||◌, List, ◌++◌, ◌≡◌, refl, sym, ◌∙◌, eqb, ltb}
-use Rattle.facts.proofs.Prelude.{leb, length, drop, lt-ltb, le-ltb, eq-eqb, ne_eqb, ltb-false, leb-false, eqb-false, nor_left, nor_right}
+-- What a class table's call answers and leaves, by each of its tests.
+use Rattle.facts.proofs.Prelude.{ℕ, ◌%◌, ◌≤◌, arith, pos_of_ne-zero, Bool, true, false, not, ◌||◌, List, ◌++◌, ◌≡◌, refl, eqb, ltb}
+use Rattle.facts.proofs.Prelude.{leb, length, drop, ltb-false, leb-false, eqb-false, nor_left, nor_right, by_cases}
 use Rattle.classes.specs.Sizes.{granule_bytes, max_medium_size}
+use Rattle.words.specs.Refusal.{number_of}
+use Rattle.words.specs.declared.refusal.Refusal.{Refusal}
+use Rattle.words.proofs.Refusals.{positive}
+use Rattle.tables.specs.way.Rate.{rate_code}
 use Rattle.tables.specs.Table.{table, last_size, max_rate, bad_rate, bad_top, bad_slots, Growth, class_table, TableEnds}
 
 pub growth_of : (a b top : ℕ) → bad_rate a b ≡ false → bad_top top ≡ false → Growth a b top
@@ -22,38 +25,35 @@ growth_of a b top g t =
       high = ltb-false max_medium_size top (nor_right part (ltb max_medium_size top) t₁);
     }
 
-module _ (a b top slots : ℕ) (list : List ℕ) (s : Bool) (e : s ≡ bad_rate a b) where
-  pub rate_refused : s ≡ true → TableEnds (class_table a b top slots list) 22 list
+module _ (a b top slots : ℕ) (list : List ℕ) where
+  pub rate_refused : (e : Refusal) → number_of e ≡ rate_code a b top → TableEnds (class_table a b top slots list) (number_of e) list
   unfolding class_table
-  rate_refused t = rw (sym e ∙ t) (record { code = refl; list = refl })
+  rate_refused e h =
+      by_cases (bad_rate a b)
+      (λ g. rw g (record { code = rw g at h; list = refl }))
+      (λ g. by_cases (bad_top top)
+      (λ t. rw (g, t) (record { code = rw (g, t) at h; list = refl }))
+      (λ t. let z : number_of e ≡ 0 = rw (g, t) at h in absurd (omega (arith, positive e, z))))
 
-  module _ (u : s ≡ false) (s' : Bool) (e' : s' ≡ bad_top top) where
-    pub top-refused : s' ≡ true → TableEnds (class_table a b top slots list) 23 list
-    unfolding class_table
-    top-refused t = rw (sym e ∙ u, sym e' ∙ t) (record { code = refl; list = refl })
+  pub slots_refused : 0 ≡ rate_code a b top → bad_slots a b top slots (length list) ≡ true → TableEnds (class_table a b top slots list) 24 list
+  unfolding class_table
+  slots_refused h s =
+      by_cases (bad_rate a b)
+      (λ g. let z : 0 ≡ 22 = rw g at h in absurd (omega arith))
+      (λ g. by_cases (bad_top top)
+      (λ t. let z : 0 ≡ 23 = rw (g, t) at h in absurd (omega arith))
+      (λ t. rw (g, t, s) (record { code = refl; list = refl })))
 
-    module _ (u' : s' ≡ false) where
-      -- number 24, and no number, by the whole test
-      slots-refused : bad_slots a b top slots (length list) ≡ true → TableEnds (class_table a b top slots list) 24 list
-      unfolding class_table
-      slots-refused t = rw (sym e ∙ u, sym e' ∙ u', t) (record { code = refl; list = refl })
+  pub filled : 0 ≡ rate_code a b top → bad_slots a b top slots (length list) ≡ false → (l : List ℕ) → l ≡ table a b top slots → TableEnds (class_table a b top slots list) 0 (l ++ drop slots list)
+  unfolding class_table
+  filled h s l e =
+      by_cases (bad_rate a b)
+      (λ g. let z : 0 ≡ 22 = rw g at h in absurd (omega arith))
+      (λ g. by_cases (bad_top top)
+      (λ t. let z : 0 ≡ 23 = rw (g, t) at h in absurd (omega arith))
+      (λ t. rw (g, t, s, e) (record { code = refl; list = refl })))
 
-      carried-out : bad_slots a b top slots (length list) ≡ false → TableEnds (class_table a b top slots list) 0 (table a b top slots ++ drop slots list)
-      unfolding class_table
-      carried-out t = rw (sym e ∙ u, sym e' ∙ u', t) (record { code = refl; list = refl })
-
-      pub no-slots : slots ≡ 0 → TableEnds (class_table a b top slots list) 24 list
-      no-slots z = slots-refused (rw (eq-eqb slots 0 z) refl)
-
-      module _ (d : slots ≡ 0 → ⊥) where
-        pub no_room : length list < slots → TableEnds (class_table a b top slots list) 24 list
-        no_room h = slots-refused (rw (ne_eqb slots 0 d, lt-ltb (length list) slots h) refl)
-
-        module _ (fits : slots ≤ length list) where
-          module _ (last : ℕ) (f : last ≡ last_size a b top slots) where
-            pub too_few : last < top → TableEnds (class_table a b top slots list) 24 list
-            too_few h = slots-refused (rw (ne_eqb slots 0 d, le-ltb (length list) slots fits) (rw (← f) (lt-ltb last top h)))
-
-            module _ (reached : top ≤ last) where
-              pub filled : (l : List ℕ) → l ≡ table a b top slots ++ drop slots list → TableEnds (class_table a b top slots list) 0 l
-              filled l g = rw g (carried-out (rw (ne_eqb slots 0 d, le-ltb (length list) slots fits) (rw (← f) (le-ltb last top reached))))
+  pub fitting : bad_slots a b top slots (length list) ≡ false → slots ≤ length list
+  fitting s =
+      let few : Bool = ltb (last_size a b top slots) top in
+      ltb-false (length list) slots (nor_left (ltb (length list) slots) few (nor_right (eqb slots 0) (ltb (length list) slots || few) s))

@@ -3,11 +3,9 @@ use Rattle.facts.proofs.Prelude.{ℕ, zero, suc, arith, Bool, List, ◌≡◌, r
 use mir.Val.{bool_byte}
 use Rattle.words.proofs.Answers.{eqb-digit, byte-digit}
 use Rattle.words.specs.Host.{digit}
-use Rattle.take.specs.declared.call.Take.{Take}
 use Rattle.calls.specs.Take as Heap
-use Rattle.take.specs.declared.call.Take.TheVariants.{Refused, Took}
 use Rattle.take.specs.way.TakeAnswer.{Takes, TakesInto}
-use Rattle.take.specs.Answer.{answer_of}
+use Rattle.take.specs.Answer.{Take, Refused, Took, answer_of}
 
 pub told-refused : (k j : ℕ) (w : Bool) (m : ℕ) → answer_of k j w ≡ Refused m → k ≡ 0 → ⊥
 told-refused zero j w m e y = let z : ◌≡◌ {A = ℕ} 0 1 = cc in omega arith

@@ -1,19 +1,21 @@
 -- The ways out of the functions that plan a take, and what their loops keep.
-use Rattle.facts.proofs.Prelude.{ℕ, zero, suc, ◌+◌, ◌-◌, ◌≤◌, ◌<◌, min, arith, Bool, true, false, cond, not, ◌&&◌, and-false, List, ◌≡◌, refl, sym, ap, ◌∙◌, eqb}
-use Rattle.facts.proofs.Prelude.{ltb, leb, length, lt-ltb, le-leb, lt-leb, leb-true, eq-eqb, ne_eqb, not-true, not-false, every, by_cases, and_left, and_right}
+use Rattle.facts.proofs.Prelude.{ℕ, zero, suc, ◌+◌, ◌-◌, ◌≤◌, ◌<◌, min, arith, Bool, true, false, false≢true, cond, ◌&&◌, List, ◌≡◌, refl, sym, ap, ◌∙◌, eqb}
+use Rattle.facts.proofs.Prelude.{leb, length, lt-ltb, le-leb, lt-leb, leb-true, eq-eqb, ne_eqb, by_cases, and_left, and_right}
 use Rattle.words.specs.Limits.{class_rows}
 use Rattle.classes.specs.declared.Shape.{Shape}
-use Rattle.fields.specs.Field.{arena, class, page, frontier, partial, next, prev, free, carved, listed, virgin, words, Has, get}
+use Rattle.fields.specs.Field.{arena, class, page, frontier, partial, next, prev, free, carved, virgin, words, Has, get}
 use Rattle.pages.specs.Runs.{whole}
-use Rattle.pages.specs.Stack.{top_entries, latest, has_more}
+use Rattle.pages.specs.Stack.{latest}
 use Rattle.pages.proofs.Runs.{whole_says}
 use Rattle.pages.proofs.Draws.{latest-length}
 use Rattle.pages.specs.Valid.{header_valid}
 use Rattle.pages.proofs.ValidLaws.{carved-low, room-left}
 use Rattle.calls.specs.Take.{page_ready, sound, walk}
-use Rattle.take.specs.declared.take_plan.Plan.TheVariants.{Refused, Fill}
+use Rattle.std.specs.Prelude.{Ok, Err}
+use Rattle.words.specs.declared.refusal.Refusal.{Refusal}
+use Rattle.words.specs.declared.refusal.Refusal.TheVariants.{BookWord}
 use Rattle.take.specs.way.TakePlan.{TakePre, TopEntriesPre, SupplyPre, share, walks_from, fills, Foretold}
-use Rattle.take.proofs.TakePages.{sound-valid, valid-sound, latest-some, latest-most, positive}
+use Rattle.take.proofs.TakePages.{sound-valid, valid-sound, latest-some, latest-most}
 use Rattle.take.proofs.Walk.{planned, planned-stops, planned-goes, stops, stops-full, stops-none, walk-stops, walk_step}
 use Rattle.take.proofs.Fill.{fill_planned}
 
@@ -30,74 +32,29 @@ module _ (b : List ℕ) (sh : Shape) (q : ℕ) where
   pub virgin-yes : (v : Bool) (x : ℕ) → v ≡ true → x ≡ get b (page virgin q) → eqb x 1 ≡ (v && eqb (get b (page virgin q)) 1)
   virgin-yes v x e h = rw (e, h)
 
-module _ (b : List ℕ) (sh : Shape) (l q : ℕ) (h : Bool) (i : h ≡ header_valid b sh 0 q) where
-  pub ready-invalid : not h ≡ true → false ≡ page_ready b sh l q
-  unfolding page_ready
-  ready-invalid t = rw (← i, not-true h t)
-
-  pub ready-unlisted : (x : ℕ) → x ≡ get b (page listed q) → (x ≡ l → ⊥) → false ≡ page_ready b sh l q
-  unfolding page_ready
-  ready-unlisted x e d = simp (← e, ne_eqb x l d, and-false)
-
-  pub ready-more : (x : ℕ) (r : Bool) → not h ≡ false → x ≡ get b (page listed q) → x ≡ l → r ≡ has_more b sh q → r ≡ page_ready b sh l q
-  unfolding page_ready
-  ready-more x r t e d k = rw (← i, not-false h t, ← e, eq-eqb x l d) k
-
 -- ---- a page
 module _ (n : ℕ) (b : List ℕ) (c : ℕ) (sh : Shape) (l m q : ℕ) where
-  pub sound_broken : (w : Bool) → w ≡ whole n b sh c q → not w ≡ true → false ≡ sound n b c sh l m q
-  unfolding sound
-  sound_broken w e h = rw (← e, not-true w h)
+  pub run-there : (w : Bool) → TakePre n b c sh → w ≡ whole n b sh c q → w ≡ true → words (q + 1) ≤ length b
+  run-there w a e t = omega (arith, (whole_says n b sh c q (sym e ∙ t)).inside, a.long, a.shape.paged)
 
-  pub sound_header : (w h : Bool) → w ≡ whole n b sh c q → h ≡ page_ready b sh l q → not h ≡ true → false ≡ sound n b c sh l m q
-  unfolding sound
-  sound_header w h e e' f = simp (← e', not-true h f, and-false)
-
-  pub sound-top_entries : (w h : Bool) (f k : ℕ) (r : Bool) → w ≡ whole n b sh c q → not w ≡ false → h ≡ page_ready b sh l q → not h ≡ false → f ≡ get b (page free q) → k ≡ get b (page carved q)
-      → r ≡ every (λ i. ltb i k) (top_entries b q m f) → r ≡ sound n b c sh l m q
-  unfolding sound
-  sound-top_entries w h f k r e₁ t₁ e₂ t₂ e₃ e₄ e₅ = rw (← e₁, not-false w t₁, ← e₂, not-false h t₂, ← e₃, ← e₄) e₅
-
-  pub run-there : (w : Bool) → TakePre n b c sh → w ≡ whole n b sh c q → not w ≡ false → words (q + 1) ≤ length b
-  run-there w a e t = omega (arith, (whole_says n b sh c q (sym e ∙ not-false w t)).inside, a.long, a.shape.paged)
-
-  pub run-free : (w : Bool) → TakePre n b c sh → w ≡ whole n b sh c q → not w ≡ false → Has b (page free q)
+  pub run-free : (w : Bool) → TakePre n b c sh → w ≡ whole n b sh c q → w ≡ true → Has b (page free q)
   run-free w a e t = omega (arith, run-there w a e t)
 
-  pub run-carved : (w : Bool) → TakePre n b c sh → w ≡ whole n b sh c q → not w ≡ false → Has b (page carved q)
+  pub run-carved : (w : Bool) → TakePre n b c sh → w ≡ whole n b sh c q → w ≡ true → Has b (page carved q)
   run-carved w a e t = omega (arith, run-there w a e t)
 
-  pub header_top_entries : (w h : Bool) (f : ℕ) → TakePre n b c sh → w ≡ whole n b sh c q → not w ≡ false → h ≡ page_ready b sh l q → not h ≡ false → f ≡ get b (page free q) → TopEntriesPre b q f
+  pub header_top_entries : (w h : Bool) (f : ℕ) → TakePre n b c sh → w ≡ whole n b sh c q → w ≡ true → h ≡ page_ready b sh l q → h ≡ true → f ≡ get b (page free q) → TopEntriesPre b q f
   unfolding page_ready
   header_top_entries w h f a e t e' t' e'' =
-      let u = and_left (header_valid b sh 0 q) _ (sym e' ∙ not-false h t') in
+      let u = and_left (header_valid b sh 0 q) _ (sym e' ∙ t') in
       record { there = run-there w a e t; slots = omega (arith, room-left b sh 0 q u, carved-low b sh 0 q u, a.shape.few) }
 
-  pub sound-supply : (s : Bool) → TakePre n b c sh → s ≡ sound n b c sh l m q → not s ≡ false → SupplyPre b sh q
+  pub sound-supply : (s : Bool) → TakePre n b c sh → s ≡ sound n b c sh l m q → s ≡ true → SupplyPre b sh q
   sound-supply s a e t =
-      let f = sound-valid n b c sh l m q (sym e ∙ not-false s t) in
+      let f = sound-valid n b c sh l m q (sym e ∙ t) in
       let x = leb-true (get b (page free q)) (get b (page carved q)) f.stack in
       let y = leb-true (get b (page carved q)) sh.capacity f.within in
       record { there = run-there (whole n b sh c q) a refl (rw f.run); some = omega (arith, a.shape.few); carved = y; few = a.shape.few }
-
--- ---- the page with a code
-module _ (n : ℕ) (b : List ℕ) (c : ℕ) (sh : Shape) (m code y : ℕ) where
-  pub share-above : (f : ℕ) → f ≡ get b (arena frontier) → f < code → 0 ≡ share n b c sh m code y
-  unfolding share
-  share-above f e h = rw (← e, lt-leb code f h)
-
-  pub share-prev : (p : ℕ) → p ≡ get b (page prev (code - 1)) → (p ≡ y → ⊥) → 0 ≡ share n b c sh m code y
-  unfolding share
-  share-prev p e h = simp (← e, ne_eqb p y h, and-false)
-
-  pub share_unsound : (s : Bool) → s ≡ sound n b c sh 1 m (code - 1) → not s ≡ true → 0 ≡ share n b c sh m code y
-  unfolding share
-  share_unsound s e h = simp (← e, not-true s h, and-false)
-
-  pub share-some : (f p : ℕ) (s : Bool) (r : ℕ) → f ≡ get b (arena frontier) → code ≤ f → p ≡ get b (page prev (code - 1)) → p ≡ y → s ≡ sound n b c sh 1 m (code - 1) → not s ≡ false
-      → r ≡ length (latest b sh (code - 1) m) → r ≡ share n b c sh m code y
-  unfolding share
-  share-some f p s r e₁ h₁ e₂ h₂ e₃ h₃ e₄ = rw (← e₁, le-leb code f h₁, ← e₂, eq-eqb p y h₂, ← e₃, not-false s h₃) e₄
 
 -- ---- the walk: what is left of it from here comes to the whole
 module _ (n : ℕ) (b : List ℕ) (c : ℕ) (sh : Shape) where
@@ -122,24 +79,36 @@ module _ (n : ℕ) (b : List ℕ) (c : ℕ) (sh : Shape) where
     pub sound : sound n b c sh 1 m (code - 1) ≡ true
     pub blocks : j ≡ length (latest b sh (code - 1) m)
 
-  found : (j m code y : ℕ) → j ≡ share n b c sh m code y → (j ≡ 0 → ⊥) → Found j m code y
-  unfolding share
-  found j m code y e h =
-      by_cases (leb code (get b (arena frontier)) && (eqb (get b (page prev (code - 1))) y && sound n b c sh 1 m (code - 1)))
-      (λ t. record {
-        below = and_left _ _ t;
-        before = and_left _ _ (and_right (leb code (get b (arena frontier))) _ t);
-        sound = and_right (eqb (get b (page prev (code - 1))) y) _ (and_right (leb code (get b (arena frontier))) _ t);
-        blocks = rw t at e;
-      })
-      (λ t. absurd (h (rw t at e)))
+  -- the three tests
+  abbrev tests : ℕ → ℕ → ℕ → Bool
+  tests m code y = leb code (get b (arena frontier)) && (eqb (get b (page prev (code - 1))) y && sound n b c sh 1 m (code - 1))
 
-  pub turn-most : (j m code y : ℕ) → j ≡ share n b c sh m code y → j ≤ m
+  shared : (t : Bool) (x j : ℕ) → Ok j ≡ cond t (Ok x) (Err BookWord) → (t ≡ true) × (j ≡ x)
+  shared true x j e = let z : j ≡ x = cc in (refl, z)
+  shared false x j e = absurd (let z : ◌≡◌ {A = ℕ} 0 1 = cc in omega arith)
+
+  unshared : (t : Bool) (x : ℕ) (r : Refusal) → Err r ≡ cond t (Ok x) (Err BookWord) → (t ≡ false) × (r ≡ BookWord)
+  unshared true x r e = absurd (let z : ◌≡◌ {A = ℕ} 0 1 = cc in omega arith)
+  unshared false x r e = let z : r ≡ BookWord = cc in (refl, z)
+
+  found : (j m code y : ℕ) → Ok j ≡ share n b c sh m code y → Found j m code y
   unfolding share
-  turn-most j m code y e =
-      by_cases (leb code (get b (arena frontier)) && (eqb (get b (page prev (code - 1))) y && sound n b c sh 1 m (code - 1)))
-      (λ t. let z : j ≡ length (latest b sh (code - 1) m) = rw t at e in omega (arith, latest-most b sh (code - 1) m))
-      (λ t. let z : j ≡ 0 = rw t at e in omega arith)
+  found j m code y e =
+      let s = shared (tests m code y) (length (latest b sh (code - 1) m)) j e in
+      record {
+        below = and_left _ _ s.0;
+        before = and_left _ _ (and_right (leb code (get b (arena frontier))) _ s.0);
+        sound = and_right (eqb (get b (page prev (code - 1))) y) _ (and_right (leb code (get b (arena frontier))) _ s.0);
+        blocks = s.1;
+      }
+
+  pub turn-some : (j m code y : ℕ) → (m ≡ 0 → ⊥) → Ok j ≡ share n b c sh m code y → 1 ≤ j
+  turn-some j m code y h e =
+      let f = found j m code y e in
+      rw f.blocks (latest-some b sh (code - 1) m h (sound-valid n b c sh 1 m (code - 1) f.sound).more)
+
+  pub turn-most : (j m code y : ℕ) → Ok j ≡ share n b c sh m code y → j ≤ m
+  turn-most j m code y e = omega (arith, (found j m code y e).blocks, latest-most b sh (code - 1) m)
 
   goes : (m code : ℕ) → (m ≡ 0 → ⊥) → (code ≡ 0 → ⊥) → stops m code ≡ false
   goes m code h z = rw (ne_eqb m 0 h, ne_eqb code 0 z)
@@ -171,25 +140,25 @@ module _ (n : ℕ) (b : List ℕ) (c : ℕ) (sh : Shape) where
         virgins = rw (ev, ex, bl) (and_assoc v _ _ ∙ ap (λ t. v && t.virgin) (sym g) ∙ u);
       }
 
-  pub plan-again : (code y left j x : ℕ) (v v' : Bool) → (left ≡ 0 → ⊥) → PlanInv code y left v → (code ≡ 0 → ⊥) → j ≡ share n b c sh left code y → (j ≡ 0 → ⊥)
+  pub plan-again : (code y left j x : ℕ) (v v' : Bool) → (left ≡ 0 → ⊥) → PlanInv code y left v → (code ≡ 0 → ⊥) → Ok j ≡ share n b c sh left code y
       → v' ≡ (v && eqb (get b (page virgin (code - 1))) 1) → x ≡ get b (page next (code - 1)) → PlanInv x code (left - j) v'
-  plan-again code y left j x v v' h i z e o ev ex = go i.fuel i.enough i.walks i.counts i.virgins
+  plan-again code y left j x v v' h i z e ev ex = go i.fuel i.enough i.walks i.counts i.virgins
     where
       go : (k : ℕ) → left ≤ k → walk n b c sh k left code y ≡ walk n b c sh sh.batch sh.batch head 0
           → (sh.batch - left) + (planned b sh k left code).count ≡ (planned b sh sh.batch sh.batch head).count
           → (v && (planned b sh k left code).virgin) ≡ (planned b sh sh.batch sh.batch head).virgin → PlanInv x code (left - j) v'
       go zero l w p u = absurd (h (omega arith))
-      go (suc k) l w p u = again k j code y left x v v' h z l i.within w p u (found j left code y e o) (positive j o) ev ex
+      go (suc k) l w p u = again k j code y left x v v' h z l i.within w p u (found j left code y e) (turn-some j left code y h e) ev ex
 
-  pub turn-there : (j m code y : ℕ) → TakePre n b c sh → j ≡ share n b c sh m code y → (j ≡ 0 → ⊥) → (code ≡ 0 → ⊥) → words (code - 1 + 1) ≤ length b
-  turn-there j m code y a e h z = omega (arith, leb-true code (get b (arena frontier)) (found j m code y e h).below, a.bound, a.long, z)
+  pub turn-there : (j m code y : ℕ) → TakePre n b c sh → Ok j ≡ share n b c sh m code y → (code ≡ 0 → ⊥) → words (code - 1 + 1) ≤ length b
+  turn-there j m code y a e z = omega (arith, leb-true code (get b (arena frontier)) (found j m code y e).below, a.bound, a.long, z)
 
-  pub turn-next : (j m code y : ℕ) → TakePre n b c sh → j ≡ share n b c sh m code y → (j ≡ 0 → ⊥) → (code ≡ 0 → ⊥) → Has b (page next (code - 1))
-  turn-next j m code y a e h z = omega (arith, turn-there j m code y a e h z)
+  pub turn-next : (j m code y : ℕ) → TakePre n b c sh → Ok j ≡ share n b c sh m code y → (code ≡ 0 → ⊥) → Has b (page next (code - 1))
+  turn-next j m code y a e z = omega (arith, turn-there j m code y a e z)
 
   -- ---- the ends
   ends : (code y left : ℕ) (v : Bool) → TakePre n b c sh → PlanInv code y left v → stops left code ≡ true
-      → Foretold (cond (leb code (get b (arena frontier))) (Fill (sh.batch - left) v) (Refused 13)) (walks_from n b c sh) (fills b c sh)
+      → Foretold (cond (leb code (get b (arena frontier))) (Ok (record { count = sh.batch - left; virgin = v })) (Err BookWord)) (walks_from n b c sh) (fills b c sh)
   ends code y left v a i s =
       let g = planned-stops b sh i.fuel left code s in
       let w : walks_from n b c sh ≡ leb code (get b (arena frontier)) = sym i.walks ∙ walk-stops n b c sh i.fuel left code y s in
@@ -198,35 +167,35 @@ module _ (n : ℕ) (b : List ℕ) (c : ℕ) (sh : Shape) where
       by_cases (walks_from n b c sh)
       (λ t.
       let f = fill_planned n c (lt-ltb c class_rows a.known) sh a.shape sh.batch sh.batch b (le-leb (words n) (length b) a.long) a.bound t in
-      rw (← w, t, p, u) (ap (λ z. Fill z.count z.virgin) (sym f)))
+      rw (← w, t, p, u) (ap (λ z. Ok (record { count = z.count; virgin = z.virgin })) (sym f)))
       (λ t. rw (← w, t))
     where
       and-true : (x : Bool) → (x && true) ≡ x
       and-true true = refl
       and-true false = refl
 
-  pub plan-empty : (code y left : ℕ) (v : Bool) → TakePre n b c sh → PlanInv code y left v → code ≡ 0 → Foretold (Fill (sh.batch - left) v) (walks_from n b c sh) (fills b c sh)
+  pub plan-empty : (code y left : ℕ) (v : Bool) → TakePre n b c sh → PlanInv code y left v → code ≡ 0 → Foretold (Ok (record { count = sh.batch - left; virgin = v })) (walks_from n b c sh) (fills b c sh)
   plan-empty code y left v a i z = rw (le-leb code (get b (arena frontier)) (omega arith)) at (ends code y left v a i (stops-none left code z))
 
   module _ (code y left f : ℕ) (v : Bool) (a : TakePre n b c sh) (z : left ≡ 0) (i : PlanInv code y left v) (e : f ≡ get b (arena frontier)) where
-    pub plan-above : f < code → Foretold (Refused 13) (walks_from n b c sh) (fills b c sh)
+    pub plan-above : f < code → Foretold (Err BookWord) (walks_from n b c sh) (fills b c sh)
     plan-above l = rw (lt-leb code (get b (arena frontier)) (omega arith)) at (ends code y left v a i (stops-full left code z))
 
-    pub plan-done : code ≤ f → Foretold (Fill sh.batch v) (walks_from n b c sh) (fills b c sh)
+    pub plan-done : code ≤ f → Foretold (Ok (record { count = sh.batch; virgin = v })) (walks_from n b c sh) (fills b c sh)
     plan-done l = rw (le-leb code (get b (arena frontier)) (omega arith), sub-none sh.batch left z) at (ends code y left v a i (stops-full left code z))
       where
         sub-none : (x y : ℕ) → y ≡ 0 → x - y ≡ x
         sub-none x y e = omega arith
 
-  fails : (k j m code y : ℕ) → (m ≡ 0 → ⊥) → m ≤ k → (code ≡ 0 → ⊥) → j ≡ share n b c sh m code y → j ≡ 0 → walk n b c sh k m code y ≡ true → ⊥
-  unfolding share
-  fails zero j m code y h l z e o w = h (omega arith)
-  fails (suc k) j m code y h l z e o w =
+  fails : (k m code y : ℕ) → (m ≡ 0 → ⊥) → m ≤ k → (code ≡ 0 → ⊥) → tests m code y ≡ false → walk n b c sh k m code y ≡ true → ⊥
+  fails zero m code y h l z e w = h (omega arith)
+  fails (suc k) m code y h l z e w =
       let s = walk_step n b c sh k m code y (goes m code h z) w in
-      let some = latest-some b sh (code - 1) m h s.valid.more in
-      let t : share n b c sh m code y ≡ length (latest b sh (code - 1) m) = rw (s.below, s.before, eq-eqb y y refl, valid-sound n b c sh 1 m (code - 1) s.valid) in
-      omega (arith, some, sym e ∙ o, t)
+      let t : tests m code y ≡ true = rw (s.below, s.before, eq-eqb y y refl, valid-sound n b c sh 1 m (code - 1) s.valid) in
+      absurd (false≢true (sym e ∙ t))
 
-  pub plan-fails : (code y left j : ℕ) (v : Bool) → (left ≡ 0 → ⊥) → PlanInv code y left v → (code ≡ 0 → ⊥) → j ≡ share n b c sh left code y → j ≡ 0 → Foretold (Refused 13) (walks_from n b c sh) (fills b c sh)
-  plan-fails code y left j v h i z e o =
-      by_cases (walks_from n b c sh) (λ w. absurd (fails i.fuel j left code y h i.enough z e o (i.walks ∙ w))) (λ w. rw w)
+  pub plan-fails : (code y left : ℕ) (v : Bool) (r : Refusal) → (left ≡ 0 → ⊥) → PlanInv code y left v → (code ≡ 0 → ⊥) → Err r ≡ share n b c sh left code y → Foretold (Err r) (walks_from n b c sh) (fills b c sh)
+  unfolding share
+  plan-fails code y left v r h i z e =
+      let s = unshared (tests left code y) (length (latest b sh (code - 1) left)) r e in
+      by_cases (walks_from n b c sh) (λ w. absurd (fails i.fuel left code y h i.enough z s.0 (i.walks ∙ w))) (λ w. rw (w, s.1))

@@ -1,9 +1,9 @@
 -- A take from a store: its newest page becomes the partial list.
-use Rattle.facts.proofs.Prelude.{ℕ, suc, ◌+◌, ◌-◌, ◌≤◌, ◌<◌, arith, Bool, true, false, not, and-false, List, ◌≡◌, refl, sym, ap, ◌∙◌, eqb, ltb}
-use Rattle.facts.proofs.Prelude.{leb, length, lt-ltb, le-leb, leb-true, ne_eqb, eqb-true, eqb-false, not-true, not-false, and_left, and_right}
+use Rattle.facts.proofs.Prelude.{ℕ, suc, ◌+◌, ◌-◌, ◌≤◌, ◌<◌, arith, Bool, true, false, not, List, ◌≡◌, refl, sym, ap, ◌∙◌, eqb, ltb}
+use Rattle.facts.proofs.Prelude.{leb, length, lt-ltb, le-leb, leb-true, eqb-true, eqb-false, not-true, not-false, and_left, and_right}
 use Rattle.words.specs.Limits.{class_rows}
 use Rattle.classes.specs.declared.Shape.{Shape}
-use Rattle.fields.specs.Field.{Field, arena, class, page, frontier, partial, next, free, carved, listed, virgin, region, get, words, Has}
+use Rattle.fields.specs.Field.{Field, arena, class, page, frontier, partial, free, carved, listed, virgin, region, get, words, Has}
 use Rattle.fields.proofs.Laws.{get-put_other}
 use Rattle.fields.proofs.Changes.{Changes}
 use Rattle.pages.specs.Stack.{latest}
@@ -15,37 +15,13 @@ use Rattle.pages.proofs.Runs.{whole_says}
 use Rattle.pages.proofs.Kept.{Owns, Body, changes-owns, changes-body, latest-kept}
 use Rattle.pages.proofs.Frames.{changes-pop_store}
 use Rattle.pages.specs.Valid.{store_valid}
-use Rattle.calls.specs.Take.{sound, park_valid}
-use Rattle.take.specs.declared.take_plan.Plan.TheVariants.{Refused, Fill}
+use Rattle.calls.specs.Take.{park_valid}
+use Rattle.std.specs.Prelude.{Ok, Err}
+use Rattle.words.specs.declared.refusal.Refusal.TheVariants.{BookWord}
 use Rattle.take.specs.way.TakePlan.{TakePre, SupplyPre, walks_from, fills, Foretold, ParkedPre, unparked}
 use Rattle.take.proofs.TakePages.{Valid, sound-valid, valid-kept}
 use Rattle.take.proofs.TakeAlone.{link-changes, alone-walks, alone-planned}
 use Rattle.take.proofs.Fill.{foreseen, fill_planned}
-
--- ---- the test
-module _ (n : ℕ) (b : List ℕ) (c : ℕ) (sh : Shape) (k : Park) where
-  pub valid-store : (s : Bool) → s ≡ store_valid b c k → not s ≡ true → false ≡ park_valid n b c sh k
-  unfolding park_valid
-  valid-store s e h = rw (← e, not-true s h)
-
-  pub valid-none : (m : ℕ) → m ≡ get b (class (stored k) c) → m ≡ 0 → false ≡ park_valid n b c sh k
-  unfolding park_valid
-  valid-none m e h = simp (← e, h, and-false)
-
-  pub valid_unsound : (x : ℕ) (s : Bool) → x ≡ get b (class (top k) c) → s ≡ sound n b c sh 0 sh.batch (x - 1) → not s ≡ true → false ≡ park_valid n b c sh k
-  unfolding park_valid
-  valid_unsound x s e e' h = simp (← e, ← e', not-true s h, and-false)
-
-  pub next-there : (t : Bool) (x : ℕ) → ParkedPre n b c sh k → t ≡ store_valid b c k → not t ≡ false → x ≡ get b (class (top k) c) → Has b (page next (x - 1))
-  next-there t x a e h j =
-      let z = leb-true (get b (class (top k) c)) (get b (arena frontier)) (and_left _ _ (sym e ∙ not-false t h)) in
-      omega (arith, a.some, a.pre.bound, a.pre.long)
-
-  pub valid-next : (t : Bool) (m x : ℕ) (s : Bool) (y f : ℕ) → t ≡ store_valid b c k → not t ≡ false → m ≡ get b (class (stored k) c) → (m ≡ 0 → ⊥) → x ≡ get b (class (top k) c)
-      → s ≡ sound n b c sh 0 sh.batch (x - 1) → not s ≡ false → y ≡ get b (page next (x - 1)) → f ≡ get b (arena frontier) → leb y f ≡ park_valid n b c sh k
-  unfolding park_valid
-  valid-next t m x s y f e₁ h₁ e₂ h₂ e₃ e₄ h₃ e₅ e₆ =
-      rw (← e₁, not-false t h₁, ← e₂, ne_eqb m 0 h₂, ← e₃, ← e₄, not-false s h₃, ← e₅, ← e₆)
 
 -- ---- the page
 -- a page that leaves its store: only the class's row changes
@@ -161,16 +137,16 @@ module _ (n : ℕ) (b : List ℕ) (c : ℕ) (sh : Shape) (k : Park) (a : ParkedP
 
 -- ---- the plan
 module _ (n : ℕ) (b : List ℕ) (c : ℕ) (sh : Shape) (k : Park) where
-  pub parked-fails : (r : Bool) → r ≡ park_valid n b c sh k → not r ≡ true → Foretold (Refused 13) (park_valid n b c sh k) (fills (unparked b c k) c sh)
+  pub parked-fails : (r : Bool) → r ≡ park_valid n b c sh k → not r ≡ true → Foretold (Err BookWord) (park_valid n b c sh k) (fills (unparked b c k) c sh)
   parked-fails r e h = rw (← e, not-true r h)
 
   pub parked-done : (r : Bool) (x m v : ℕ) → ParkedPre n b c sh k → r ≡ park_valid n b c sh k → not r ≡ false → x ≡ get b (class (top k) c)
       → m ≡ length (latest b sh (x - 1) sh.batch) → v ≡ get b (page virgin (x - 1))
-      → Foretold (Fill m (eqb v 1)) (park_valid n b c sh k) (fills (unparked b c k) c sh)
+      → Foretold (Ok (record { count = m; virgin = eqb v 1 })) (park_valid n b c sh k) (fills (unparked b c k) c sh)
   parked-done r x m v a e h ex em ev =
       let yes : park_valid n b c sh k ≡ true = sym e ∙ not-false r h in
       let w = unparked-planned n b c sh k a yes in
-      rw (yes, em, ev, ex) (ap (λ z. Fill z.count z.virgin) (sym w))
+      rw (yes, em, ev, ex) (ap (λ z. Ok (record { count = z.count; virgin = z.virgin })) (sym w))
 
   pub plan-there : (r : Bool) (x : ℕ) → ParkedPre n b c sh k → r ≡ park_valid n b c sh k → not r ≡ false → x ≡ get b (class (top k) c) → SupplyPre b sh (x - 1)
   plan-there r x a e h ex = rw ex (parked-supply n b c sh k a (sym e ∙ not-false r h))

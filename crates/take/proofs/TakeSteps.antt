@@ -1,5 +1,5 @@
 -- The ways out of the takes.
-use Rattle.facts.proofs.Prelude.{ℕ, zero, suc, ◌+◌, ◌-◌, ◌≤◌, ◌<◌, min, arith, add-one, Bool, true, false, cond, ◌&&◌, false≢true, List, Option, none, some, ◌≡◌, refl, sym, not, not-true, not-false}
+use Rattle.facts.proofs.Prelude.{ℕ, zero, suc, ◌+◌, ◌-◌, ◌≤◌, ◌<◌, min, arith, add-one, Bool, true, false, cond, ◌&&◌, false≢true, List, none, some, ◌≡◌, refl, sym, not, not-true, not-false}
 use Rattle.facts.proofs.Prelude.{ap, ◌∙◌, eqb, ltb, leb, length, lt-ltb, le-ltb, le-leb, ltb-true, ltb-false, eq-eqb, ne_eqb, eqb-true, is_some, by_cases, and_left, and_right}
 use mir.Val.{bool_byte}
 use Rattle.words.specs.Limits.{class_rows}
@@ -10,13 +10,11 @@ use Rattle.fields.specs.Field.{arena, class, frontier, partial, empty, cold, wor
 use Rattle.fields.proofs.Changes.{Changes}
 use Rattle.fields.specs.Ranges.{head_valid}
 use Rattle.fields.proofs.Sound.{head-frontier}
-use Rattle.runs.specs.declared.Commit as Commit
-use Rattle.runs.specs.declared.Commit.TheVariants as Made
 use Rattle.arena.specs.Valid.{commit_valid}
 use Rattle.arena.specs.Calls.{Committed, commit_refused, commit_for}
 use Rattle.runs.specs.Answer as Arena
 use Rattle.runs.specs.Answer.{Answers}
-use Rattle.runs.specs.way.Found.{has_run, Finds}
+use Rattle.runs.specs.way.Found.{has_run}
 use Rattle.pages.specs.Stack.{latest}
 use Rattle.pages.specs.Links.{link, top, unpark_run}
 use Rattle.pages.specs.Carve.{carved_at_once, new_run}
@@ -25,12 +23,16 @@ use Rattle.pages.specs.declared.Park.TheVariants.{Empty, Cold}
 use Rattle.pages.specs.way.Pre.{RowPre, UnparkRunPre, LinkPre, NewPre}
 use Rattle.pages.proofs.Draws.{latest-length}
 use Rattle.pages.proofs.Frames.{at_once-le}
-use Rattle.take.specs.declared.call.Take.TheVariants as Answer
-use Rattle.take.specs.declared.take_plan.Plan.{Plan}
-use Rattle.take.specs.declared.take_plan.Plan.TheVariants.{Refused, Nothing, Fill}
+use Rattle.std.proofs.Math.Option as Math
+use Rattle.std.specs.Prelude.{Option, None, Some, Result, Ok, Err, MatchResult, IsOkAnd}
+use Rattle.words.specs.declared.refusal.Refusal.{Refusal}
+use Rattle.words.specs.declared.refusal.Refusal.TheVariants.{ListTooShort, BookWord}
+use Rattle.words.specs.Refusal.{number_of}
+use Rattle.take.specs.declared.call.Taken.{Taken}
+use Rattle.take.specs.Answer as Answer
 use Rattle.calls.specs.Take.{park_valid, Took, took_none, from_partial, from_park, on_run, take_new, take_blocks, take_call}
 use Rattle.take.specs.way.TakePlan.{TakePre, TakeRunPre, TakeNewPre, SourcePre, CallPre, ListPre, Granted, walks_from, fills, Foretold, ParkedPre, first_store, unparked, readied, FirstPre, FillPre, Filling}
-use Rattle.take.specs.way.TakeAnswer.{TakesInto, Serves, Readies, Plans, within, take_list, Exceeds, on_run_at}
+use Rattle.take.specs.way.TakeAnswer.{TakesInto, Serves, Source, Readies, Plans, within, take_list, Exceeds, on_run_at}
 use Rattle.take.specs.Answer.{answer_of}
 use Rattle.take.proofs.TakeSpares.{blocks-fixed}
 use Rattle.take.proofs.AnswerSteps.{into_refused, into_took}
@@ -126,28 +128,27 @@ module _ (b : List ℕ) (c : ℕ) (sh : Shape) (q : ℕ) where
         let ca = new-carved a.pages b (hb a) c sh a.pre.shape q a.ends a.under a.owners in
         latest-length (new_run b sh q) sh q sh.batch ∙ rw (fr, ca) (gives sh.batch (carved_at_once sh) sh.capacity (at_once-le sh))
 
-    run-serves : Serves (min sh.batch sh.capacity) true (link (new_run b sh q) c q) c sh (on_run_at b c sh q)
+    run-serves : Serves (record { count = min sh.batch sh.capacity; virgin = true }) (link (new_run b sh q) c q) c sh (on_run_at b c sh q)
     unfolding on_run
     run-serves =
         let p = linked-planned a in
         record { pages = a.pages; pre = linked-pre a; walks = linked-walks a; count = sym (ap (λ z. z.count) p ∙ run-gives); virgin = sym (ap (λ z. z.virgin) p); is = λ l. refl }
 
-  pub run-ready : (b₁ b₂ : List ℕ) (k : ℕ) → TakeRunPre b c sh q → b₁ ≡ new_run b sh q → b₂ ≡ link b₁ c q → k ≡ min sh.batch sh.capacity → Readies (Fill k true) b₂ c sh (on_run_at b c sh q)
-  unfolding Readies
+  pub run-ready : (b₁ b₂ : List ℕ) (k : ℕ) → TakeRunPre b c sh q → b₁ ≡ new_run b sh q → b₂ ≡ link b₁ c q → k ≡ min sh.batch sh.capacity → Serves (record { count = k; virgin = true }) b₂ c sh (on_run_at b c sh q)
   run-ready b₁ b₂ k a e e₂ ek = rw (e₂, e, ek) (run-serves a)
 
 -- ---- what the arena answered
-answer-refused : (code : ℕ) (run : Option ℕ) (f : Bool) (k : ℕ) → Arena.answer_of code run f ≡ Made.Refused k → (code ≡ k) × (k ≡ 0 → ⊥)
+answer-refused : (code : ℕ) (run : Math.Option ℕ) (f : Bool) (k : ℕ) → Arena.answer_of code run f ≡ Arena.Refused k → (code ≡ k) × (k ≡ 0 → ⊥)
 answer-refused zero none f k e = absurd (let z : ◌≡◌ {A = ℕ} 0 1 = cc in omega arith)
 answer-refused zero (some q) f k e = absurd (let z : ◌≡◌ {A = ℕ} 0 1 = cc in omega arith)
 answer-refused (suc j) run f k e = let z : suc j ≡ k = cc in (z, λ u. omega arith)
 
-answer-none : (code : ℕ) (run : Option ℕ) (f : Bool) → Arena.answer_of code run f ≡ Made.Nothing → (code ≡ 0) × (run ≡ none)
+answer-none : (code : ℕ) (run : Math.Option ℕ) (f : Bool) → Arena.answer_of code run f ≡ Arena.Nothing → (code ≡ 0) × (run ≡ none)
 answer-none zero none f e = (refl, refl)
 answer-none zero (some q) f e = absurd (let z : ◌≡◌ {A = ℕ} 0 1 = cc in omega arith)
 answer-none (suc j) run f e = absurd (let z : ◌≡◌ {A = ℕ} 0 1 = cc in omega arith)
 
-answer-run : (code : ℕ) (run : Option ℕ) (f : Bool) (q : ℕ) (g : Bool) → Arena.answer_of code run f ≡ Made.Run q g → (code ≡ 0) × (run ≡ some q)
+answer-run : (code : ℕ) (run : Math.Option ℕ) (f : Bool) (q : ℕ) (g : Bool) → Arena.answer_of code run f ≡ Arena.Run q g → (code ≡ 0) × (run ≡ some q)
 answer-run zero none f q g e = absurd (let z : ◌≡◌ {A = ℕ} 0 1 = cc in omega arith)
 answer-run zero (some p) f q g e = let z : p ≡ q = cc in (refl, ap some z)
 answer-run (suc j) run f q g e = absurd (let z : ◌≡◌ {A = ℕ} 0 1 = cc in omega arith)
@@ -156,17 +157,13 @@ module _ (n : ℕ) (b : List ℕ) (c : ℕ) (sh : Shape) (h : ℕ) where
   abbrev commits : Committed
   commits = commit_for n b h sh.pages (suc c)
 
-  refused-keeps : (commits.code ≡ 0 → ⊥) → commits.book ≡ b
+  refused-keeps : (commits.code ≡ 0 → ⊥) → (commits.code ≡ 13) × (commits.book ≡ b)
   unfolding commit_for
   refused-keeps d = go (commit_valid n b) _ refl d
     where
-      go : (t : Bool) (x : Committed) → x.code ≡ 0 → ((cond t x (commit_refused b 13)).code ≡ 0 → ⊥) → (cond t x (commit_refused b 13)).book ≡ b
+      go : (t : Bool) (x : Committed) → x.code ≡ 0 → ((cond t x (commit_refused b 13)).code ≡ 0 → ⊥) → ((cond t x (commit_refused b 13)).code ≡ 13) × ((cond t x (commit_refused b 13)).book ≡ b)
       go true x e d = absurd (d e)
-      go false x e d = refl
-
-  numbered : (k : ℕ) → (k ≡ 0 → ⊥) → Answer.Refused k ≡ answer_of k 0 false
-  numbered zero d = absurd (d refl)
-  numbered (suc k) d = refl
+      go false x e d = (refl, refl)
 
   -- a run that it answered is the class's only page
   run-pre : TakeNewPre n b c sh → (q : ℕ) → commits.run ≡ some q → TakeRunPre commits.book c sh q
@@ -185,7 +182,7 @@ module _ (n : ℕ) (b : List ℕ) (c : ℕ) (sh : Shape) (h : ℕ) where
   unfolding take_new
   run-count t e l = rw (and_left (eqb commits.code 0) _ e) (go commits.run refl (and_right (eqb commits.code 0) _ e))
     where
-      go : (o : Option ℕ) → commits.run ≡ o → is_some o ≡ true → (on_run commits.book c sh l o).count ≡ min sh.batch sh.capacity
+      go : (o : Math.Option ℕ) → commits.run ≡ o → is_some o ≡ true → (on_run commits.book c sh l o).count ≡ min sh.batch sh.capacity
       go none g w = absurd (false≢true w)
       go (some q) g w = let s = run-serves commits.book c sh q (run-pre t q g) in ap (λ z. z.count) (s.is l) ∙ sym s.count
 
@@ -194,30 +191,30 @@ module _ (n : ℕ) (b : List ℕ) (c : ℕ) (sh : Shape) (h : ℕ) where
     asked : k < min sh.batch sh.capacity → x ≡ has_run commits
     asked o = let g : h ≡ 15 = i (omega arith) in rw g (y (suc c) ∙ rw (lt-ltb k (min sh.batch sh.capacity) o))
 
-    pub new-full : x ≡ true → Readies (Refused 5) b c sh (within k b (take_new n b c sh h))
+    pub new-full : x ≡ true → Readies (Err ListTooShort) b c sh (within k b (take_new n b c sh h))
     unfolding Readies within
     new-full e l =
         let o : k < min sh.batch sh.capacity = ltb-true k _ (and_left (ltb k (min sh.batch sh.capacity)) _ (sym (y (suc c)) ∙ e)) in
         rw (run-count t (sym (asked o) ∙ e) l, lt-ltb k (min sh.batch sh.capacity) o) (record { answer = refl; book = refl; list = refl })
 
-    module _ (e : x ≡ false) (r : Commit.Commit) (b₁ : List ℕ) (a : Answers r b₁ (commit_for n b h sh.pages (c + 1))) where
+    module _ (e : x ≡ false) (r : Arena.Commit) (b₁ : List ℕ) (a : Answers r b₁ (commit_for n b h sh.pages (c + 1))) where
       told : Answers r b₁ commits
       told = rw add-one at a
 
-      pub new-refused : (j : ℕ) → r ≡ Made.Refused j → Readies (Refused j) b₁ c sh (within k b (take_new n b c sh h))
+      pub new-refused : (j : Refusal) → r ≡ Arena.Refused (number_of j) → Readies (Err j) b₁ c sh (within k b (take_new n b c sh h))
       unfolding take_new Readies within
       new-refused j f l =
-          let u = answer-refused commits.code commits.run commits.fresh j (sym told.answer ∙ f) in
+          let u = answer-refused commits.code commits.run commits.fresh (number_of j) (sym told.answer ∙ f) in
           let d : commits.code ≡ 0 → ⊥ = λ z. u.1 (sym u.0 ∙ z) in
-          rw (ne_eqb commits.code 0 d, u.0, le-ltb k 0 (omega arith)) (record { answer = numbered j u.1; book = told.book ∙ refused-keeps d; list = refl })
+          rw (ne_eqb commits.code 0 d, (refused-keeps d).0, le-ltb k 0 (omega arith)) (record { answer = ap Answer.Refused (sym u.0 ∙ (refused-keeps d).0); book = told.book ∙ (refused-keeps d).1; list = refl })
 
-      pub new_none : r ≡ Made.Nothing → Readies Nothing b₁ c sh (within k b (take_new n b c sh h))
+      pub new_none : r ≡ Arena.Nothing → Readies (Ok None) b₁ c sh (within k b (take_new n b c sh h))
       unfolding take_new on_run Readies within
       new_none f l =
           let u = answer-none commits.code commits.run commits.fresh (sym told.answer ∙ f) in
           rw (u.0, u.1, le-ltb k 0 (omega arith)) (record { answer = refl; book = told.book; list = refl })
 
-      module _ (q : ℕ) (f : Bool) (z : r ≡ Made.Run q f) where
+      module _ (q : ℕ) (f : Bool) (z : r ≡ Arena.Run q f) where
         granted : (commits.code ≡ 0) × (commits.run ≡ some q)
         granted = answer-run commits.code commits.run commits.fresh q f (sym told.answer ∙ z)
 
@@ -234,16 +231,11 @@ module _ (n : ℕ) (b : List ℕ) (c : ℕ) (sh : Shape) (h : ℕ) where
         unfolding take_new
         is-run l = rw (granted.0, granted.1, told.book)
 
-        pub new-ready : (s : Plan) (b₂ : List ℕ) → Readies s b₂ c sh (on_run_at b₁ c sh q) → Readies s b₂ c sh (within k b (take_new n b c sh h))
+        pub new-ready : (s : Taken) (b₂ : List ℕ) → Serves s b₂ c sh (on_run_at b₁ c sh q) → Readies (Ok (Some s)) b₂ c sh (within k b (take_new n b c sh h))
+        unfolding Readies
         new-ready s b₂ p =
             let w : within k b (take_new n b c sh h) ≡ on_run_at b₁ c sh q = said (λ l. within-is k b (take_new n b c sh h) l (rw (run-count t has-run l) fits) ∙ is-run l) in
             rw w p
-
-pub exceeds_not : (n : ℕ) (b : List ℕ) (sh : Shape) (k m : ℕ) → m ≡ min sh.batch sh.capacity → m ≤ k → Exceeds false k n b sh
-exceeds_not n b sh k m e o w = rw (le-ltb k (min sh.batch sh.capacity) (omega arith))
-
-pub exceeds_runs : (n : ℕ) (b : List ℕ) (sh : Shape) (k m : ℕ) → m ≡ min sh.batch sh.capacity → k < m → (r : Bool) → Finds r n b sh.pages → Exceeds r k n b sh
-exceeds_runs n b sh k m e o r f w = rw (lt-ltb k (min sh.batch sh.capacity) (omega arith)) (f w)
 
 -- ---- a parked page heads the partial list
 module _ (b : List ℕ) (c x : ℕ) (ex : x ≡ get b (class partial c)) where
@@ -263,8 +255,17 @@ module _ (b : List ℕ) (c x : ℕ) (ex : x ≡ get b (class partial c)) where
     first-unparks = let o = a.unparks (sym ex ∙ z) in rw (ey, ek) o
 
 -- ---- the first source that has a page
+abbrev pub found : Result Taken Refusal → Source
+found (Ok k) = Ok (Some k)
+found (Err e) = Err e
+
+pub mapped : (p : Result Taken Refusal) (r : Source) → MatchResult p (λ k. IsOkAnd r (λ o. o ≡ Some k)) (λ e. r ≡ Err e) → r ≡ found p
+mapped (Ok k) (Ok o) e = ap Ok e
+mapped (Ok k) (Err d) e = absurd e
+mapped (Err d) r e = e
+
 module _ (n : ℕ) (b : List ℕ) (c : ℕ) (sh : Shape) (f : Bool) (e : f ≡ head_valid n b) where
-  pub plan-invalid : not f ≡ true → Plans (Refused 13) n b c sh
+  pub plan-invalid : not f ≡ true → Plans (Err BookWord) n b c sh
   unfolding Plans take_blocks
   plan-invalid u = (refl, λ h l. rw (← e, not-true f u))
 
@@ -281,7 +282,7 @@ module _ (n : ℕ) (b : List ℕ) (c : ℕ) (sh : Shape) (f : Bool) (e : f ≡ h
         unfolding take_blocks
         lists h l = rw (← e, not-false f u, ← ex, ne_eqb x 0 d)
 
-        pub plan-listed : (p : Plan) → Foretold p (walks_from n b c sh) (fills b c sh) → Plans p n b c sh
+        pub plan-listed : (p : Result Taken Refusal) → Foretold p (walks_from n b c sh) (fills b c sh) → Plans (found p) n b c sh
         unfolding Plans from_partial
         plan-listed p t =
             let never : get b (class partial c) ≡ 0 → ⊥ = λ o. d (ex ∙ o) in
@@ -300,7 +301,7 @@ module _ (n : ℕ) (b : List ℕ) (c : ℕ) (sh : Shape) (f : Bool) (e : f ≡ h
         no-cold : y ≡ 0 → get b (class cold c) ≡ 0
         no-cold o = let k' : k ≡ Cold = ek ∙ rw (eq-eqb (get b (class empty c)) 0 (no-empty o)) in sym (ap (λ j. get b (class (top j) c)) k') ∙ sym ey ∙ o
 
-        pub plan-none : y ≡ 0 → Plans Nothing n b c sh
+        pub plan-none : y ≡ 0 → Plans (Ok None) n b c sh
         unfolding Plans take_blocks
         plan-none o = (record { pre = source_pre; alone = sym ex ∙ z }, λ h l. rw (← e, not-false f u, ← ex, z, no-empty o, no-cold o))
 
@@ -318,7 +319,7 @@ module _ (n : ℕ) (b : List ℕ) (c : ℕ) (sh : Shape) (f : Bool) (e : f ≡ h
           parked-pre : ParkedPre n b c sh k
           parked-pre = record { pre = source_pre; alone = sym ex ∙ z; some = omega (arith, ey, d) }
 
-          pub plan-stored : (p : Plan) → Foretold p (park_valid n b c sh k) (fills (unparked b c k) c sh) → Plans p n b c sh
+          pub plan-stored : (p : Result Taken Refusal) → Foretold p (park_valid n b c sh k) (fills (unparked b c k) c sh) → Plans (found p) n b c sh
           unfolding Plans from_park
           plan-stored p t =
               let g = parked-pre in
@@ -337,60 +338,61 @@ pub store-cold : (b : List ℕ) (c y : ℕ) → y ≡ get b (class empty c) → 
 store-cold b c y e z = rw (← e, eq-eqb y 0 z)
 
 -- ---- it is made ready
-module _ (n : ℕ) (b : List ℕ) (c : ℕ) (sh : Shape) (p : Plan) (a : Plans p n b c sh) where
-  pub made-refused : (h j k : ℕ) → p ≡ Refused k → Readies (Refused k) b c sh (within j b (take_blocks n b c sh h))
+module _ (n : ℕ) (b : List ℕ) (c : ℕ) (sh : Shape) where
+  pub made-refused : (k : Refusal) → Plans (Err k) n b c sh → (h j : ℕ) → Readies (Err k) b c sh (within j b (take_blocks n b c sh h))
   unfolding Plans Readies within
-  made-refused h j k e l = let q = rw e at a in rw (q.1 h l, q.0, le-ltb j 0 (omega arith)) (record { answer = refl; book = refl; list = refl })
+  made-refused k q h j l = rw (q.0, q.1 h l, le-ltb j 0 (omega arith)) (record { answer = refl; book = refl; list = refl })
 
-  pub made-pre : p ≡ Nothing → TakeNewPre n b c sh
+module _ (n : ℕ) (b : List ℕ) (c : ℕ) (sh : Shape) (o : Option Taken) (a : Plans (Ok o) n b c sh) where
+  pub made-pre : o ≡ None → TakeNewPre n b c sh
   unfolding Plans
   made-pre e = let q = rw e at a in q.0
 
-  pub made-new : (h j : ℕ) (s : Plan) (b₁ : List ℕ) → p ≡ Nothing → Readies s b₁ c sh (within j b (take_new n b c sh h)) → Readies s b₁ c sh (within j b (take_blocks n b c sh h))
+  pub made-new : (h j : ℕ) (s : Source) (b₁ : List ℕ) → o ≡ None → Readies s b₁ c sh (within j b (take_new n b c sh h)) → Readies s b₁ c sh (within j b (take_blocks n b c sh h))
   unfolding Plans
   made-new h j s b₁ e t = let q = rw e at a in let z : take_blocks n b c sh h ≡ take_new n b c sh h = said (q.1 h) in rw z t
 
-  module _ (m : ℕ) (v : Bool) (e : p ≡ Fill m v) where
-    serves : (h : ℕ) → Serves m v (readied b c) c sh (take_blocks n b c sh h)
+  module _ (k : Taken) (e : o ≡ Some k) where
+    serves : (h : ℕ) → Serves k (readied b c) c sh (take_blocks n b c sh h)
     unfolding Plans
     serves = let q = rw e at a in q.1
 
-    counts : (h : ℕ) (l : List ℕ) → (take_blocks n b c sh h l).count ≡ m
+    counts : (h : ℕ) (l : List ℕ) → (take_blocks n b c sh h l).count ≡ k.count
     counts h l = ap (λ z. z.count) ((serves h).is l) ∙ sym (serves h).count
 
     pub made-first : FirstPre b c
     unfolding Plans
     made-first = let q = rw e at a in q.0
 
-    pub made-full : (h j : ℕ) → j < m → Readies (Refused 5) b c sh (within j b (take_blocks n b c sh h))
+    pub made-full : (h j : ℕ) → j < k.count → Readies (Err ListTooShort) b c sh (within j b (take_blocks n b c sh h))
     unfolding Readies within
-    made-full h j o l = rw (counts h l, lt-ltb j m o) (record { answer = refl; book = refl; list = refl })
+    made-full h j g l = rw (counts h l, lt-ltb j k.count g) (record { answer = refl; book = refl; list = refl })
 
-    pub made-ready : (h j : ℕ) (b₁ : List ℕ) → m ≤ j → b₁ ≡ readied b c → Readies (Fill m v) b₁ c sh (within j b (take_blocks n b c sh h))
+    pub made-ready : (h j : ℕ) (b₁ : List ℕ) → k.count ≤ j → b₁ ≡ readied b c → Readies (Ok (Some k)) b₁ c sh (within j b (take_blocks n b c sh h))
     unfolding Readies
-    made-ready h j b₁ o e₁ =
+    made-ready h j b₁ g e₁ =
         let s = serves h in
-        rw e₁ (record { pages = s.pages; pre = s.pre; walks = s.walks; count = s.count; virgin = s.virgin; is = λ l. within-is j b (take_blocks n b c sh h) l (rw (counts h l) o) ∙ s.is l })
+        rw e₁ (record { pages = s.pages; pre = s.pre; walks = s.walks; count = s.count; virgin = s.virgin; is = λ l. within-is j b (take_blocks n b c sh h) l (rw (counts h l) g) ∙ s.is l })
 
 -- ---- the call
 pub shape-pre : (w : Bool) (n : ℕ) (b : List ℕ) (c h : ℕ) (sh : Shape) → sh ≡ shape_of c → ListPre w n b c h → SourcePre n b c sh
 shape-pre w n b c h sh e a = record { known = a.call.known; shape = rw e (shape-sound c); few = a.call.few; long = a.call.long }
 
-module _ (n : ℕ) (b : List ℕ) (c h : ℕ) (l : List ℕ) (sh : Shape) (r : Plan) (b₁ : List ℕ) (a : Readies r b₁ c sh (within (length l) b (take_blocks n b c sh h))) (m : ℕ) (v : Bool) (e : r ≡ Fill m v) where
-  serving : Serves m v b₁ c sh (within (length l) b (take_blocks n b c sh h))
+module _ (n : ℕ) (b : List ℕ) (c h : ℕ) (l : List ℕ) (sh : Shape) (o : Option Taken) (b₁ : List ℕ) (a : Readies (Ok o) b₁ c sh (within (length l) b (take_blocks n b c sh h))) (k : Taken) (e : o ≡ Some k) where
+  serving : Serves k b₁ c sh (within (length l) b (take_blocks n b c sh h))
   unfolding Readies
   serving = rw e at a
 
-  room : m ≤ length l
+  room : k.count ≤ length l
   unfolding within
   room =
       let t = take_blocks n b c sh h l in
       let s = serving.is l in
       by_cases (ltb (length l) t.count)
       (λ u. let z : (within (length l) b (take_blocks n b c sh h) l).code ≡ 5 = rw u in absurd (let y : ◌≡◌ {A = ℕ} 5 0 = sym z ∙ ap (λ z. z.code) s in omega arith))
-      (λ u. let z : t.count ≡ m = (let y : within (length l) b (take_blocks n b c sh h) l ≡ t = rw u in ap (λ z. z.count) (sym y ∙ s) ∙ sym serving.count) in omega (arith, ltb-false (length l) t.count u))
+      (λ u. let z : t.count ≡ k.count = (let y : within (length l) b (take_blocks n b c sh h) l ≡ t = rw u in ap (λ z. z.count) (sym y ∙ s) ∙ sym serving.count) in omega (arith, ltb-false (length l) t.count u))
 
-  pub list-fills : FillPre b₁ c sh l m
+  pub list-fills : FillPre b₁ c sh l k.count
   list-fills = let s = serving in record { pages = s.pages; pre = s.pre; walks = s.walks; count = s.count; places = room }
 
 module _ (w : Bool) (n : ℕ) (b : List ℕ) (c h : ℕ) (l : List ℕ) (sh : Shape) (i : sh ≡ shape_of c) where
@@ -413,19 +415,19 @@ module _ (w : Bool) (n : ℕ) (b : List ℕ) (c h : ℕ) (l : List ℕ) (sh : Sh
         rw (← i, u, long, f.is l, le-ltb (length l) (length f.filled.blocks) (omega (arith, f.most, ltb-false (length l) sh.batch long))))
         (λ u. rw (← i, u))
 
-    module _ (r : Plan) (b₁ : List ℕ) (a : Readies r b₁ c sh (within (length l) b (take_blocks n b c sh h))) where
-      pub list-refused : (k m v : ℕ) → r ≡ Refused k → TakesInto k b₁ l m m v v (take_list w n b c (shape_of c) h l)
-      unfolding Readies
-      list-refused k m v e = let q = rw e at a in rw list-is (into_refused _ b₁ l (Answer.Refused k) (q l) k m v refl)
+    pub list-refused : (k : Refusal) (b₁ : List ℕ) → Readies (Err k) b₁ c sh (within (length l) b (take_blocks n b c sh h)) → (m v : ℕ) → TakesInto (number_of k) b₁ l m m v v (take_list w n b c (shape_of c) h l)
+    unfolding Readies
+    list-refused k b₁ q m v = rw list-is (into_refused _ b₁ l (Answer.Refused (number_of k)) (q l) (number_of k) m v refl)
 
-      pub list-none : (m v : ℕ) → r ≡ Nothing → TakesInto 0 b₁ l m 0 v 0 (take_list w n b c (shape_of c) h l)
+    module _ (x : Option Taken) (b₁ : List ℕ) (a : Readies (Ok x) b₁ c sh (within (length l) b (take_blocks n b c sh h))) where
+      pub list-none : x ≡ None → (m v : ℕ) → TakesInto 0 b₁ l m 0 v 0 (take_list w n b c (shape_of c) h l)
       unfolding Readies
-      list-none m v e = let q = rw e at a in rw list-is (into_took _ b₁ l (Answer.Took 0 false) (q l) 0 m v false refl)
+      list-none e m v = let q = rw e at a in rw list-is (into_took _ b₁ l (Answer.Took 0 false) (q l) 0 m v false refl)
 
-      pub list-took : (m : ℕ) (v : Bool) (b' l' : List ℕ) (m₀ v₀ : ℕ) → r ≡ Fill m v → Filling b' l' (fills b₁ c sh) l → TakesInto 0 b' l' m₀ m v₀ (bool_byte v) (take_list w n b c (shape_of c) h l)
-      list-took m v b' l' m₀ v₀ e g =
-          let s = serving n b c h l sh r b₁ a m v e in
-          rw (list-is, s.is l) (into_took _ b' l' (Answer.Took m v) (rw (s.count, s.virgin) (record { answer = refl; book = g.book; list = g.list })) m m₀ v₀ v refl)
+      pub list-took : (k : Taken) (b' l' : List ℕ) (m₀ v₀ : ℕ) → x ≡ Some k → Filling b' l' (fills b₁ c sh) l → TakesInto 0 b' l' m₀ k.count v₀ (bool_byte k.virgin) (take_list w n b c (shape_of c) h l)
+      list-took k b' l' m₀ v₀ e g =
+          let s = serving n b c h l sh x b₁ a k e in
+          rw (list-is, s.is l) (into_took _ b' l' (Answer.Took k.count k.virgin) (rw (s.count, s.virgin) (record { answer = refl; book = g.book; list = g.list })) k.count m₀ v₀ k.virgin refl)
 
 pub whole-pre : (n : ℕ) (b : List ℕ) (c h : ℕ) → CallPre n b c → ListPre true n b c h
 whole-pre n b c h a = record { call = a; granted = λ z. absurd (false≢true (sym z)) }

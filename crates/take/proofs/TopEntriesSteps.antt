@@ -1,8 +1,8 @@
 -- The entries of a page's stack from one place on below another, and the ways out of the functions that test them.
 --     fit         each of the topmost n of a stack of t is below k
 --     fit-split   those above a place, and those below it
-use Rattle.facts.proofs.Prelude.{ℕ, zero, suc, ◌+◌, ◌-◌, ◌*◌, ◌/◌, ◌≤◌, ◌<◌, arith, zero-add, suc-add, add-one, Bool, true, false, not}
-use Rattle.facts.proofs.Prelude.{◌&&◌, and_assoc, and-false, and-true, List, ◌≡◌, refl, sym, ap, ap₂, ◌∙◌, ltb, not-true, not-false, every}
+use Rattle.facts.proofs.Prelude.{ℕ, zero, suc, ◌+◌, ◌-◌, ◌*◌, ◌/◌, ◌≤◌, ◌<◌, arith, zero-add, suc-add, add-one, Bool, true}
+use Rattle.facts.proofs.Prelude.{◌&&◌, and_assoc, and-true, List, ◌≡◌, refl, sym, ap, ap₂, ◌∙◌, ltb, every}
 use Rattle.fields.specs.Field.{slot, get}
 use Rattle.pages.specs.Stack.{top_entries}
 use Rattle.pages.proofs.TopEntries.{top_entries-cut}
@@ -80,24 +80,9 @@ module _ (b : List ℕ) (q k : ℕ) where
     abbrev high : ℕ
     high = 2 * (t / 2)
 
-    pub entries_none : t / 2 < (a + 1) / 2 → true ≡ fit (t - a) t
-    entries_none l = end_none a t (omega arith)
-
-    entries-split : (a + 1) / 2 ≤ t / 2 → fit (t - a) t ≡ (fit (t - high) t && (fit (high - low) high && fit (low - a) low))
+    pub entries-split : (a + 1) / 2 ≤ t / 2 → fit (t - a) t ≡ (fit (t - high) t && (fit (high - low) high && fit (low - a) low))
     entries-split l = fit_cut a high t (omega arith) (omega arith) ∙ ap (λ z. fit (t - high) t && z) (fit_cut a low high (omega arith) (omega arith))
 
-    pub entries-low : (r : Bool) → (a + 1) / 2 ≤ t / 2 → r ≡ fit (low - a) low → not r ≡ true → false ≡ fit (t - a) t
-    entries-low r l e f = simp (entries-split l, ← e, not-true r f, and-false)
-
-    pub entries-high : (r : Bool) → (a + 1) / 2 ≤ t / 2 → r ≡ fit (t - high) t → not r ≡ true → false ≡ fit (t - a) t
-    entries-high r l e f = rw (entries-split l, ← e, not-true r f)
-
-    pub entries-done : (u v r : Bool) → (a + 1) / 2 ≤ t / 2 → u ≡ fit (low - a) low → not u ≡ false → v ≡ fit (t - high) t → not v ≡ false → r ≡ fit (high - low) high → r ≡ fit (t - a) t
-    entries-done u v r l e f e' f' d = rw (entries-split l, ← e, ← e', not-false u f, not-false v f', and-true) d
-
   -- ---- the topmost m
-  pub top_entries-some : (m t : ℕ) (r : Bool) → m < t → r ≡ fit (t - (t - m)) t → r ≡ fit m t
-  top_entries-some m t r h e = let n : t - (t - m) ≡ m = omega arith in e ∙ ap (λ z. fit z t) n
-
-  pub top_entries-all : (m t : ℕ) (r : Bool) → t ≤ m → r ≡ fit (t - 0) t → r ≡ fit m t
-  top_entries-all m t r h e = e ∙ ap (every (λ i. ltb i k)) (top_entries-cut b q (t - 0) m t (omega arith))
+  pub top_entries-is : (m t a : ℕ) (r : Bool) → a ≡ t - m → r ≡ fit (t - a) t → r ≡ fit m t
+  top_entries-is m t a r f e = e ∙ ap (every (λ i. ltb i k)) (top_entries-cut b q (t - a) m t (omega arith))

@@ -22,10 +22,8 @@ fn pairs_below(meta: &[u32], q: u32, x: u32, y: u32, carved: u32) -> bool
     ensures { result ≡ every (λ i. ltb i carved) (top_entries meta.now q (2 * y - 2 * x) (2 * y)) }
 {
     let mut below = true;
-    let mut z = x;
-    while z < y {
+    for z in x..y {
         below = pair_below(meta, q, z, carved, below);
-        z += 1;
     }
     below
 }
@@ -36,10 +34,7 @@ fn end_below(meta: &[u32], q: u32, from: u32, top: u32, carved: u32) -> bool
     requires from_le_top { (from ≤ top) × (top ≤ from + 1) }
     ensures { result ≡ every (λ i. ltb i carved) (top_entries meta.now q (top - from) top) }
 {
-    if from == top {
-        return true;
-    }
-    fields::slot::entry(meta, q, from) < carved
+    from == top || fields::slot::entry(meta, q, from) < carved
 }
 
 // The entries from `from` on below `top` are below `carved`: whole words, and what is left at either end.
@@ -50,16 +45,10 @@ fn entries_below(meta: &[u32], q: u32, from: u32, top: u32, carved: u32) -> bool
 {
     let x = (from + 1) / 2;
     let y = top / 2;
-    if y < x {
-        return true;
-    }
-    if !end_below(meta, q, from, 2 * x, carved) {
-        return false;
-    }
-    if !end_below(meta, q, 2 * y, top, carved) {
-        return false;
-    }
-    pairs_below(meta, q, x, y, carved)
+    y < x
+        || (end_below(meta, q, from, 2 * x, carved)
+            && end_below(meta, q, 2 * y, top, carved)
+            && pairs_below(meta, q, x, y, carved))
 }
 
 // Of a stack of `top`, each of the topmost m entries is below `carved`.
@@ -67,8 +56,5 @@ pub fn top_entries_below(meta: &[u32], q: u32, m: u32, top: u32, carved: u32) ->
     requires { TopEntriesPre meta.now q top }
     ensures { result ≡ every (λ i. ltb i carved) (top_entries meta.now q m top) }
 {
-    if m < top {
-        return entries_below(meta, q, top - m, top, carved);
-    }
-    entries_below(meta, q, 0, top, carved)
+    entries_below(meta, q, top.saturating_sub(m), top, carved)
 }

@@ -1,6 +1,5 @@
 pub mod Ways
 pub mod Refused
-pub mod ListWays
 pub mod StepWays
 pub mod TakeWays
 pub mod ReportWays

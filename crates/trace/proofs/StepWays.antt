@@ -1,30 +1,22 @@
 -- The ways out of a word's code.
 use Rattle.facts.proofs.Prelude.{ℕ, zero, suc, ◌+◌, ◌-◌, ◌*◌, ◌^◌, ◌≤◌, ◌<◌, arith, mod-eq_of_lt, Bool, true, false, not, ◌||◌, false≢true, List, [], ◌∷◌, ◌≡◌, refl, sym, ap, ◌∙◌}
-use Rattle.facts.proofs.Prelude.{eqb, length, get_or, set, length-set, List·getD-eq-default, get_or-take, drop-set-lt, ne_eqb, eqb-true, lt-ltb, le-ltb, not-true, not-false, by_cases}
+use Rattle.facts.proofs.Prelude.{eqb, length, get_or, set, length-set, List·getD-eq-default, get_or-take, drop-set-lt, ne_eqb, eqb-true, not-true, not-false, by_cases}
 use lib.ListN as ListN
 use Rattle.words.specs.Word.{kind_of, granule_of, pack_block}
 use Rattle.words.proofs.RoundTrip.{granule-lt}
 use Rattle.classes.specs.declared.Shape.{Shape}
 use Rattle.classes.specs.Shape.{shape_of}
-use Rattle.release.specs.declared.Released.{Released}
-use Rattle.release.specs.declared.Released.TheVariants.{Refused, Fate}
 use Rattle.release.specs.way.Act.{Answered}
-use Rattle.release.specs.Answer.{answer_as}
-use Rattle.trace.specs.declared.steps.Tally.{Tally}
-use Rattle.trace.specs.declared.steps.Step.TheVariants.{Stops, Goes}
+use Rattle.release.specs.Answer.{Refused, Fate, answer_as}
+use Rattle.trace.specs.declared.tally.Tally.{Tally}
+use Rattle.std.proofs.Common.{Option, Some, None}
 use Rattle.trace.specs.Trace as Trace
 use Rattle.trace.specs.Trace.{max}
-use Rattle.trace.specs.Words.{is_block, flip_kind, restore_kind, size_of, back_now, class_at}
+use Rattle.trace.specs.Words.{is_block, flip_kind, size_of, back_now, class_at, owner_at}
 use Rattle.trace.specs.way.Steps.{lent, CarriedBlocks}
 use Rattle.trace.proofs.Refused.{back-keeps}
 
 module _ (w k : ℕ) (e : k ≡ kind_of w) where
-  pub block_one : k ≡ 1 → true ≡ is_block w
-  block_one z = rw (← e, z)
-
-  pub block-two : (k ≡ 1 → ⊥) → eqb k 2 ≡ is_block w
-  block-two z = rw (← e, ne_eqb k 1 z)
-
   kind-two : is_block w ≡ true → (k ≡ 1 → ⊥) → kind_of w ≡ 2
   kind-two h z = by_cases (eqb (kind_of w) 2) (λ u. eqb-true (kind_of w) 2 u) (λ u. absurd (false≢true (rw (← e, ne_eqb k 1 z) at (rw u at h))))
 
@@ -36,26 +28,11 @@ module _ (w k : ℕ) (e : k ≡ kind_of w) where
       let y : w + 2 ^ 62 ≡ 3 * 2 ^ 62 + granule_of w = omega (arith, kind-two h z) in
       f ∙ rw (mod-eq_of_lt (granule-lt w), ← e, ne_eqb k 1 z) (sym y)
 
-  pub restore_kind-none : (r : ℕ) → k ≡ 0 → r ≡ pack_block 1 (granule_of w) → r ≡ restore_kind w
-  restore_kind-none r z f = let y : w + 2 ^ 62 ≡ 1 * 2 ^ 62 + granule_of w = omega arith in f ∙ rw (mod-eq_of_lt (granule-lt w), ← e, z) (sym y)
-
-  pub restore_kind-three : (r : ℕ) → (k ≡ 0 → ⊥) → k ≡ 3 → r ≡ pack_block 2 (granule_of w) → r ≡ restore_kind w
-  restore_kind-three r y z f = let x : w - 2 ^ 62 ≡ 2 * 2 ^ 62 + granule_of w = omega arith in f ∙ rw (mod-eq_of_lt (granule-lt w), ← e, z) (sym x)
-
-  pub restore_kind_else : (k ≡ 0 → ⊥) → (k ≡ 3 → ⊥) → w ≡ restore_kind w
-  restore_kind_else y z = rw (← e, ne_eqb k 0 y, ne_eqb k 3 z)
-
 pub block-yes : (w : ℕ) (r : Bool) → r ≡ is_block w → not r ≡ false → is_block w ≡ true
 block-yes w r e y = sym e ∙ not-false r y
 
-pub more-right : (a b : ℕ) → a < b → b ≡ max a b
-more-right a b h = rw (lt-ltb a b h)
-
-pub more_left : (a b : ℕ) → b ≤ a → a ≡ max a b
-more_left a b h = rw (le-ltb a b h)
-
-pub size_is : (c : ℕ) (sh : Shape) → sh ≡ shape_of c → sh.block * 16 ≡ size_of c
-size_is c sh e = rw e
+pub size_is : (c k : ℕ) (sh : Shape) → sh ≡ shape_of c → k ≡ sh.block → k * 16 ≡ size_of c
+size_is c k sh e f = rw (f, e)
 
 -- ---- the word of a place
 pub or_true : (t : Bool) → (t || true) ≡ true
@@ -85,29 +62,35 @@ module _ (n : ℕ) (b bl : List ℕ) (t : Tally) (p : ℕ) where
   within : p < t.at → get_or (ListN.take t.at bl) p 0 ≡ get_or bl p 0
   within h = rw get_or-take
 
-  pub back-past : t.at ≤ p → CarriedBlocks Stops n (Trace.back p) b bl t b bl
+  pub back-past : t.at ≤ p → CarriedBlocks None n (Trace.back p) b bl t b bl
   back-past h fl =
       let l : length (ListN.take t.at bl) ≤ p = omega (arith, length-take-le t.at bl) in
       record { reason = rw (List·getD-eq-default (ListN.take t.at bl) 0 l); same = refl }
 
-  pub back-gone : (r : Bool) → p < t.at → r ≡ is_block (get_or bl p 0) → not r ≡ true → CarriedBlocks Stops n (Trace.back p) b bl t b bl
+  pub back-gone : (r : Bool) → p < t.at → r ≡ is_block (get_or bl p 0) → not r ≡ true → CarriedBlocks None n (Trace.back p) b bl t b bl
   back-gone r h e z fl = record { reason = rw (within h, ← e, not-true r z); same = refl }
 
-  module _ (b' : List ℕ) (o : Released) (a : Answered o b' (back_now n b (get_or bl p 0))) where
-    pub back-refused : (k : ℕ) → p < t.at → o ≡ Refused k → CarriedBlocks Stops n (Trace.back p) b bl t b' bl
-    back-refused k h e fl =
-        let z : (back_now n b (get_or bl p 0)).code ≡ 0 → ⊥ = λ y. told-fate (back_now n b (get_or bl p 0)).code (back_now n b (get_or bl p 0)).fate k (sym a.answer ∙ e) y in
+  -- no class has the block's page: a release of it is refused
+  pub back-nowhere : (r : Option Tally) → p < t.at → r ≡ None → 0 ≡ owner_at n b (get_or bl p 0) → CarriedBlocks r n (Trace.back p) b bl t b bl
+  unfolding back_now
+  back-nowhere r h q e fl = rw q (record { reason = rw (within h, ← e) (or_true (not (is_block (get_or bl p 0)))); same = refl })
+
+  module _ (b' : List ℕ) where
+    pub back-refused : (k : ℕ) → Answered (Refused k) b' (back_now n b (get_or bl p 0)) → p < t.at → CarriedBlocks None n (Trace.back p) b bl t b' bl
+    back-refused k a h fl =
+        let z : (back_now n b (get_or bl p 0)).code ≡ 0 → ⊥ = λ y. told-fate (back_now n b (get_or bl p 0)).code (back_now n b (get_or bl p 0)).fate k (sym a.answer) y in
         record { reason = rw (within h, ne_eqb (back_now n b (get_or bl p 0)).code 0 z) (or_true (not (is_block (get_or bl p 0)))); same = ap (λ (d : List ℕ). lent d bl fl) (a.left ∙ back-keeps n b (get_or bl p 0) z) }
 
-    pub back-went : (r : Bool) (f v cl size : ℕ) (t' : Tally) → p < t.at → r ≡ is_block (get_or bl p 0) → not r ≡ false → o ≡ Fate f → v ≡ flip_kind (get_or bl p 0) → cl ≡ class_at n b (get_or bl p 0) → size ≡ size_of cl
+    pub back-went : (r : Bool) (f v c size : ℕ) (t' : Tally) → Answered (Fate f) b' (back_now n b (get_or bl p 0)) → p < t.at → r ≡ is_block (get_or bl p 0) → not r ≡ false → v ≡ flip_kind (get_or bl p 0) → c + 1 ≡ owner_at n b (get_or bl p 0) → size ≡ size_of c
         → t' ≡ record { at = t.at; written = t.written; out = t.out - 1; bytes = t.bytes - size; highest = max t.highest (t.bytes - size) }
-        → CarriedBlocks (Goes t') n (Trace.back p) b bl t b' (set bl p v)
-    back-went r f v cl size t' h e y i j q g s fl =
-        let z : (back_now n b (get_or bl p 0)).code ≡ 0 = told-refused (back_now n b (get_or bl p 0)).code (back_now n b (get_or bl p 0)).fate f (sym a.answer ∙ i) in
+        → CarriedBlocks (Some t') n (Trace.back p) b bl t b' (set bl p v)
+    back-went r f v c size t' a h e y j q g s fl =
+        let d : class_at n b (get_or bl p 0) ≡ c = omega (arith, q) in
+        let z : (back_now n b (get_or bl p 0)).code ≡ 0 = told-refused (back_now n b (get_or bl p 0)).code (back_now n b (get_or bl p 0)).fate f (sym a.answer) in
         let k : is_block (get_or bl p 0) ≡ true = sym e ∙ not-false r y in
         rw s (record {
           free = rw (within h, k, z);
-          goes = rw (within h, j, g, q, a.left, take-set t.at bl p (flip_kind (get_or bl p 0)) h);
+          goes = rw (within h, j, g, d, a.left, take-set t.at bl p (flip_kind (get_or bl p 0)) h);
           blocks = drop-set-lt t.at bl p v h;
           figures = refl;
           further = (omega arith, omega arith);

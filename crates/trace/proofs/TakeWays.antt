@@ -1,5 +1,5 @@
 -- The ways out of a trace's take.
-use Rattle.facts.proofs.Prelude.{ℕ, ◌+◌, ◌-◌, ◌*◌, ◌^◌, ◌≤◌, ◌<◌, arith, mul-le-mul, le_refl, Bool, true, false, cond, not, List, ◌++◌, append_assoc, append-nil}
+use Rattle.facts.proofs.Prelude.{ℕ, ◌+◌, ◌-◌, ◌*◌, ◌^◌, ◌≤◌, ◌<◌, arith, mul-le-mul, le_refl, Bool, true, false, cond, not, List, ap, ◌++◌, append_assoc, append-nil}
 use Rattle.facts.proofs.Prelude.{◌≡◌, refl, sym, ◌∙◌, eqb, ltb, length, drop, length-drop, take-append-drop, paste, paste-zero, take-paste, drop-paste, length-paste}
 use Rattle.facts.proofs.Prelude.{length-take-le, take-length, drop-length, drop-drop, take-append_seam, ne_eqb, lt-ltb, le-ltb, ltb-true, ltb-false, by_cases}
 use lib.ListN as ListN
@@ -7,17 +7,21 @@ use Rattle.classes.specs.Shape.{shape_of}
 use Rattle.classes.proofs.Shapes.{shape-sound}
 use Rattle.calls.specs.Take as Heap
 use Rattle.calls.specs.Take.{take_blocks, take_call}
-use Rattle.take.specs.declared.call.Take.{Take}
-use Rattle.take.specs.declared.call.Take.TheVariants.{Refused, Took}
+use Rattle.std.specs.Prelude.{Result, Ok, Err}
+use Rattle.words.specs.declared.refusal.Refusal.{Refusal}
+use Rattle.words.specs.Refusal.{number_of}
+use Rattle.take.specs.declared.call.Taken.{Taken}
+use Rattle.take.specs.Answer.{told_take}
 use Rattle.take.specs.way.TakeAnswer.{Takes, within, take_list}
 use Rattle.take.proofs.TakeSpares.{Fixed, blocks-fixed}
 use Rattle.take.proofs.AnswerSteps.{told-refused, told-code, told-count}
-use Rattle.trace.specs.declared.steps.Tally.{Tally}
-use Rattle.trace.specs.declared.steps.Step.TheVariants.{Stops, Goes}
+use Rattle.trace.specs.declared.tally.Tally.{Tally}
+use Rattle.std.proofs.Common.{Some, None}
 use Rattle.trace.specs.Trace as Trace
 use Rattle.trace.specs.Trace.{max, blank}
 use Rattle.trace.specs.Words.{take_now, size_of, bytes_max}
-use Rattle.trace.specs.way.Pre.{MorePre, TakesAt, fitted}
+use Rattle.trace.specs.way.Pre.{TakesAt, fitted}
+use Rattle.trace.specs.way.Tally.{MorePre}
 use Rattle.trace.specs.way.Steps.{CarriedBlocks}
 use Rattle.trace.proofs.Refused.{take_spares}
 use Rattle.trace.proofs.StepWays.{or_true}
@@ -32,11 +36,11 @@ module _ (n : ℕ) (b bl : List ℕ) (t : Tally) (c : ℕ) (a : t.at ≤ length 
   handed : length (ListN.take t.at bl) ≡ t.at
   handed = length-take-le t.at bl a
 
-  pub take-many : bytes_max < t.bytes → CarriedBlocks Stops n (Trace.take c) b bl t b bl
+  pub take-many : bytes_max < t.bytes → CarriedBlocks None n (Trace.take c) b bl t b bl
   take-many z fl = record { reason = rw (lt-ltb bytes_max t.bytes z) (or_true (not (eqb (take_now n b c).code 0))); same = refl }
 
-  module _ (few_bytes : t.bytes ≤ bytes_max) (b' bl' : List ℕ) (o : Take) (x : TakesAt o b' bl' (fitted (take_now n b c) b bl t.at) bl t.at) where
-    pub take-refused : (k : ℕ) → o ≡ Refused k → CarriedBlocks Stops n (Trace.take c) b bl t b' bl'
+  module _ (few_bytes : t.bytes ≤ bytes_max) (b' bl' : List ℕ) (o : Result Taken Refusal) (x : TakesAt o b' bl' (fitted (take_now n b c) b bl t.at) bl t.at) where
+    pub take-refused : (k : Refusal) → o ≡ Err k → CarriedBlocks None n (Trace.take c) b bl t b' bl'
     unfolding fitted
     take-refused k e fl =
         let y = take_now n b c in
@@ -47,24 +51,27 @@ module _ (n : ℕ) (b bl : List ℕ) (t : Tally) (c : ℕ) (a : t.at ≤ length 
         record { reason = rw (handed, u, le-ltb bytes_max t.bytes few_bytes) (or_true (not (eqb y.code 0))); same = rw (same, w.book) })
         (λ u.
         let w = rw u at x in
-        let z : y.code ≡ 0 → ⊥ = told-refused y.code y.count y.virgin k (sym w.answer ∙ e) in
+        let z : y.code ≡ 0 → ⊥ = told-refused y.code y.count y.virgin (number_of k) (sym w.answer ∙ ap told_take e) in
         let same : bl' ≡ bl = w.blocks ∙ (rw ((take_spares n b c).none z) (sym (paste-zero bl t.at y.list))) in
         record { reason = rw (ne_eqb y.code 0 z); same = rw (same, w.book, (take_spares n b c).book z) })
 
-    module _ (m : ℕ) (v : Bool) (e : o ≡ Took m v) (size : ℕ) (s : size ≡ size_of c) where
+    module _ (k : Taken) (e : o ≡ Ok k) (size : ℕ) (s : size ≡ size_of c) where
       fits : ltb (length bl) (t.at + (take_now n b c).count) ≡ false
       unfolding fitted
       fits =
           by_cases (ltb (length bl) (t.at + (take_now n b c).count))
-          (λ u. let w = rw u at x in absurd (let z : ◌≡◌ {A = ℕ} 5 0 = told-code 5 0 false m v (sym w.answer ∙ e) in omega arith))
+          (λ u. let w = rw u at x in absurd (let z : ◌≡◌ {A = ℕ} 5 0 = told-code 5 0 false k.count k.virgin (sym w.answer ∙ ap told_take e) in omega arith))
           (λ u. u)
 
       taken : TakesAt o b' bl' (take_now n b c) bl t.at
       unfolding fitted
       taken = rw fits at x
 
+      abbrev m : ℕ
+      m = k.count
+
       counted : m ≡ (take_now n b c).count
-      counted = let y = take_now n b c in told-count y.code y.count y.virgin m v (sym taken.answer ∙ e)
+      counted = let y = take_now n b c in told-count y.code y.count y.virgin m k.virgin (sym taken.answer ∙ ap told_take e)
 
       room : t.at + m ≤ length bl
       room = omega (arith, counted, ltb-false (length bl) (t.at + (take_now n b c).count) fits)
@@ -72,20 +79,20 @@ module _ (n : ℕ) (b bl : List ℕ) (t : Tally) (c : ℕ) (a : t.at ≤ length 
       listed : m ≤ length (take_now n b c).list
       listed = rw counted (take_spares n b c).within
 
-      pub take_more : t.out ≤ t.at → length bl < 2 ^ 64 → MorePre t m size
+      pub take_more : t.out ≤ t.at → length bl < 2 ^ 64 → MorePre t k.count size
       take_more out long =
           let low : size ≤ 524288 = omega (arith, s, size_low c) in
           let few-blocks : m ≤ 64 = omega (arith, counted, taken.few) in
           let p : m * size ≤ 64 * 524288 = mul-le-mul few-blocks low in
           record { at = omega (arith, room); out = omega (arith, room); bytes = omega (arith, p, few_bytes) }
 
-      pub take-went : (t' : Tally) → t' ≡ record { at = t.at + m; written = t.written; out = t.out + m; bytes = t.bytes + m * size; highest = max t.highest (t.bytes + m * size) }
-          → CarriedBlocks (Goes t') n (Trace.take c) b bl t b' bl'
+      pub take-went : (t' : Tally) → t' ≡ record { at = t.at + k.count; written = t.written; out = t.out + k.count; bytes = t.bytes + k.count * size; highest = max t.highest (t.bytes + k.count * size) }
+          → CarriedBlocks (Some t') n (Trace.take c) b bl t b' bl'
       take-went t' u fl =
           let y = take_now n b c in
-          let k : y.code ≡ 0 = told-code y.code y.count y.virgin m v (sym taken.answer ∙ e) in
+          let z : y.code ≡ 0 = told-code y.code y.count y.virgin m k.virgin (sym taken.answer ∙ ap told_take e) in
           rw (u, taken.blocks, ← counted) (record {
-            free = rw (handed, k, le-ltb bytes_max t.bytes few_bytes, ← counted, le-ltb (length bl) (t.at + m) room);
+            free = rw (handed, z, le-ltb bytes_max t.bytes few_bytes, ← counted, le-ltb (length bl) (t.at + m) room);
             goes = rw (take-paste bl t.at y.list m a listed, s, ← counted, ← taken.book);
             blocks = drop-paste bl t.at y.list m a listed;
             figures = refl;
@@ -137,13 +144,13 @@ module _ (n : ℕ) (b : List ℕ) (c : ℕ) where
     unfolding fitted
     fitted-is = rw now-is
 
-    pub now-takes : (h : ℕ) (o : Take) (b' l' : List ℕ) → h ≡ 15 → Takes o b' l' (take_list false n b c (shape_of c) h (ListN.take (length bl - i) (drop i bl)))
+    pub now-takes : (h : ℕ) (o : Result Taken Refusal) (b' l' : List ℕ) → h ≡ 15 → Takes (told_take o) b' l' (take_list false n b c (shape_of c) h (ListN.take (length bl - i) (drop i bl)))
         → TakesAt o b' (ListN.take i bl ++ (l' ++ drop (length bl - i) (drop i bl))) (fitted (take_now n b c) b bl i) bl i
     now-takes h o b' l' g y =
-        let x : Takes o b' l' (within (length (drop i bl)) b (take_blocks n b c (shape_of c) 15) (drop i bl)) = rw (g, lent-part bl i) at y in
+        let x : Takes (told_take o) b' l' (within (length (drop i bl)) b (take_blocks n b c (shape_of c) 15) (drop i bl)) = rw (g, lent-part bl i) at y in
         let z = rw part-is at x in
         rw (back-part bl i l', fitted-is) (go (ltb (length bl) (i + length given)) z)
       where
-        go : (t : Bool) → Takes o b' l' (cond t (Heap.took_none b (drop i bl) 5) (onto (drop i bl))) → TakesAt o b' (ListN.take i bl ++ l') (cond t (Heap.took_none b (onto blank).list 5) (onto blank)) bl i
+        go : (t : Bool) → Takes (told_take o) b' l' (cond t (Heap.took_none b (drop i bl) 5) (onto (drop i bl))) → TakesAt o b' (ListN.take i bl ++ l') (cond t (Heap.took_none b (onto blank).list 5) (onto blank)) bl i
         go true z = record { answer = z.answer; book = z.book; few = omega arith; blocks = rw z.list (back-same bl i (onto blank).list) }
         go false z = record { answer = z.answer; book = z.book; few = omega (arith, fixed.most, (shape-sound c).limited); blocks = rw z.list (back_pasted bl i given (drop (length given) blank)) }

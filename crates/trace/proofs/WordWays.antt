@@ -1,56 +1,55 @@
--- The ways out of one word: what it says, and the call's own way.
-use Rattle.facts.proofs.Prelude.{ℕ, ◌/◌, ◌%◌, ◌<◌, ◌≤◌, Bool, true, false, ◌&&◌, List, ◌≡◌, refl, eqb, ne_eqb, lt-ltb, le-ltb}
+-- What a word says.
+use Rattle.facts.proofs.Prelude.{ℕ, ◌/◌, ◌%◌, ◌<◌, ◌≤◌, arith, ◌&&◌, ◌≡◌, sym, eqb, ne_eqb, ltb, ltb-true, lt-ltb, le-ltb, by_cases}
+use Rattle.std.proofs.Common.{Some}
 use Rattle.classes.specs.Shape.{class_count}
-use Rattle.trace.specs.declared.steps.Tally.{Tally}
-use Rattle.trace.specs.declared.steps.Step.{Step}
-use Rattle.trace.specs.declared.steps.Step.TheVariants.{Stops}
+use Rattle.trace.specs.declared.say.Say.{Say}
+use Rattle.trace.specs.declared.say.Say.TheVariants.{Take}
 use Rattle.trace.specs.Trace as Trace
-use Rattle.trace.specs.Trace.{say_of, wrong}
-use Rattle.trace.specs.way.Steps.{lent, Carried, CarriedBlocks, CarriedReport}
+use Rattle.trace.specs.Trace.{say, say_of, wrong}
+use Rattle.trace.specs.way.Steps.{said}
 
-module _ (k m : ℕ) where
-  pub report-kind : (k ≡ 2 → ⊥) → false ≡ (eqb k 2 && eqb m 0)
-  report-kind z = rw (ne_eqb k 2 z)
+-- only of a class that there is a word says a take
+low-class : (k m c : ℕ) → say k m ≡ Trace.take c → c < class_count
+low-class k m c h =
+    by_cases (eqb k 0)
+    (λ u.
+    by_cases (ltb m class_count)
+    (λ v. let e : Trace.take m ≡ Trace.take c = rw (u, v) at h in let f : m ≡ c = cc in omega (arith, ltb-true m class_count v, f))
+    (λ v. let e : wrong ≡ Trace.take c = rw (u, v) at h in absurd (cc)))
+    (λ u.
+    by_cases (eqb k 1)
+    (λ v. let e : Trace.back m ≡ Trace.take c = rw (u, v) at h in absurd (cc))
+    (λ v.
+    by_cases (eqb k 2 && eqb m 0)
+    (λ x. let e : Trace.report ≡ Trace.take c = rw (u, v, x) at h in absurd (cc))
+    (λ x. let e : wrong ≡ Trace.take c = rw (u, v, x) at h in absurd (cc))))
 
-  pub report-number : k ≡ 2 → eqb m 0 ≡ (eqb k 2 && eqb m 0)
-  report-number z = rw z
+pub word-low : (w c : ℕ) (x : Say) → said (Some x) ≡ say_of w → x ≡ Take c → c < class_count
+unfolding say_of
+word-low w c x e f = low-class (w / 1073741824) (w % 1073741824) c (rw f at (sym e))
 
-module _ (w k m : ℕ) (e : k ≡ w / 1073741824) (f : m ≡ w % 1073741824) where
-  says_take : k ≡ 0 → m < class_count → say_of w ≡ Trace.take m
+-- what each word says
+module _ (w : ℕ) where
+  pub says_take : w / 1073741824 ≡ 0 → w % 1073741824 < class_count → Trace.take (w % 1073741824) ≡ say_of w
   unfolding say_of
-  says_take z h = rw (← e, ← f, z, lt-ltb m class_count h)
+  says_take z h = rw (z, lt-ltb (w % 1073741824) class_count h)
 
-  says_high : k ≡ 0 → class_count ≤ m → say_of w ≡ wrong
+  pub says_high : w / 1073741824 ≡ 0 → class_count ≤ w % 1073741824 → wrong ≡ say_of w
   unfolding say_of
-  says_high z h = rw (← e, ← f, z, le-ltb m class_count h)
+  says_high z h = rw (z, le-ltb (w % 1073741824) class_count h)
 
-  says_back : (k ≡ 0 → ⊥) → k ≡ 1 → say_of w ≡ Trace.back m
+  pub says_back : w / 1073741824 ≡ 1 → Trace.back (w % 1073741824) ≡ say_of w
   unfolding say_of
-  says_back y z = rw (← e, ← f, z)
+  says_back z = rw z
 
-  module _ (x : k ≡ 0 → ⊥) (y : k ≡ 1 → ⊥) (u : Bool) (v : u ≡ (eqb k 2 && eqb m 0)) where
-    says_report : u ≡ true → say_of w ≡ Trace.report
-    unfolding say_of
-    says_report z = rw (← e, ← f, ne_eqb k 0 x, ne_eqb k 1 y, ← v, z)
+  pub says_report : w / 1073741824 ≡ 2 → w % 1073741824 ≡ 0 → Trace.report ≡ say_of w
+  unfolding say_of
+  says_report z h = rw (z, h)
 
-    says_wrong : u ≡ false → say_of w ≡ wrong
-    unfolding say_of
-    says_wrong z = rw (← e, ← f, ne_eqb k 0 x, ne_eqb k 1 y, ← v, z)
+  pub says_more : w / 1073741824 ≡ 2 → (w % 1073741824 ≡ 0 → ⊥) → wrong ≡ say_of w
+  unfolding say_of
+  says_more z h = rw (z, ne_eqb (w % 1073741824) 0 h)
 
-    module _ (n : ℕ) (b bl fl : List ℕ) (t : Tally) where
-      pub word-report : (r : Step) (fl' : List ℕ) → u ≡ true → CarriedReport r n b fl t fl' → Carried r n (say_of w) (lent b bl fl) t (lent b bl fl')
-      word-report r fl' z c = rw (says_report z) (c bl)
-
-      pub word-wrong : u ≡ false → Carried Stops n (say_of w) (lent b bl fl) t (lent b bl fl)
-      word-wrong z = rw (says_wrong z) (record { reason = refl; same = refl })
-
-  module _ (n : ℕ) (b bl fl : List ℕ) (t : Tally) (r : Step) where
-    pub word-take : (b' bl' : List ℕ) → k ≡ 0 → m < class_count → CarriedBlocks r n (Trace.take m) b bl t b' bl' → Carried r n (say_of w) (lent b bl fl) t (lent b' bl' fl)
-    word-take b' bl' z h c = rw (says_take z h) (c fl)
-
-    pub word_back : (b' bl' : List ℕ) → (k ≡ 0 → ⊥) → k ≡ 1 → CarriedBlocks r n (Trace.back m) b bl t b' bl' → Carried r n (say_of w) (lent b bl fl) t (lent b' bl' fl)
-    word_back b' bl' y z c = rw (says_back y z) (c fl)
-
-  module _ (n : ℕ) (b bl fl : List ℕ) (t : Tally) where
-    pub word-high : k ≡ 0 → class_count ≤ m → Carried Stops n (say_of w) (lent b bl fl) t (lent b bl fl)
-    word-high z h = rw (says_high z h) (record { reason = refl; same = refl })
+  pub says_other : (w / 1073741824 ≡ 0 → ⊥) → (w / 1073741824 ≡ 1 → ⊥) → (w / 1073741824 ≡ 2 → ⊥) → wrong ≡ say_of w
+  unfolding say_of
+  says_other x y z = rw (ne_eqb (w / 1073741824) 0 x, ne_eqb (w / 1073741824) 1 y, ne_eqb (w / 1073741824) 2 z)

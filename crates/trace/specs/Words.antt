@@ -14,9 +14,7 @@ use Rattle.fields.specs.Field.{page, owner, get}
 use Rattle.fields.specs.Ranges.{length_fault}
 use Rattle.words.specs.Host.{host_max}
 use Rattle.arena.specs.Open.{opened}
-use Rattle.direct.specs.declared.Report.{Report}
-use Rattle.direct.specs.declared.Report.TheVariants.{Refused, Reported}
-use Rattle.direct.specs.Answer.{report_of}
+use Rattle.direct.specs.Answer.{Report, Reported, report_of}
 use Rattle.calls.specs.Take.{Took, take_call}
 use Rattle.pages.specs.Stack.{page_at}
 use Rattle.calls.specs.Release.{Released, released_none, release_blocks}
@@ -88,15 +86,15 @@ gave_back n g p w = come g (back_now n g.book w).book (back_at p g.listed) (g.ou
 
 -- pages held and idle are those of a report
 abbrev pub held_in : Report → ℕ
-held_in (Refused k) = 0
+held_in (Report.Refused k) = 0
 held_in (Reported f) = f.held
 
 abbrev pub idle_in : Report → ℕ
-idle_in (Refused k) = 0
+idle_in (Report.Refused k) = 0
 idle_in (Reported f) = f.idle
 
 abbrev pub unreported : Report → Bool
-unreported (Refused k) = true
+unreported (Report.Refused k) = true
 unreported (Reported f) = false
 
 abbrev pub five : ℕ → Going → List ℕ

@@ -1,3 +1,4 @@
 pub mod Pre
+pub mod Tally
 pub mod Steps
 pub mod Course

@@ -1,4 +1,5 @@
-// A trace's words in turn, up to the first that stops it.
+// A trace's words in turn, up to the first that stops it. The three lent lists are passed one by one: a struct of them that is lent by &mut could be left
+// with other lists in it, and each contract would have to rule that out.
 ghost use Rattle.std.specs.Prelude.{[], ◌≡◌, ◌≤◌, length};
 ghost use Rattle.rules.specs.Rules.{rules_of};
 ghost use Rattle.arena.specs.Open.{opened};
@@ -6,7 +7,8 @@ ghost use Rattle.trace.specs.way.Steps.{lent};
 ghost use Rattle.trace.specs.way.Course.{Coursed, Ran};
 ghost use Rattle.trace.specs.way.Pre.{BookPre};
 
-use crate::steps::{Step, Tally, word};
+use crate::steps::word;
+use crate::tally::Tally;
 use crate::word_lists::restore_kinds;
 
 // How many words were carried out, and what they came to.
@@ -26,29 +28,16 @@ pub fn carry_out(
     requires { BookPre n meta.old }
     ensures { Coursed result n (lent meta.old blocks.old figures.old) (lent meta.new blocks.new figures.new) trace.now }
 {
-    let mut t = Tally {
-        at: 0,
-        written: 0,
-        out: 0,
-        bytes: 0,
-        highest: 0,
-    };
-    let mut i = 0;
-    while i < trace.len() {
-        match word(meta, n, trace[i], blocks, figures, t) {
-            Step::Stops => return Course {
-                carried: i,
-                tally: t,
-            },
-            Step::Goes(u) => {
-                t = u;
-                i += 1;
-            }
-        }
+    let mut tally = Tally::START;
+    for (i, w) in trace.iter().enumerate() {
+        let Some(next) = word(meta, n, *w, blocks, figures, tally) else {
+            return Course { carried: i, tally };
+        };
+        tally = next;
     }
     Course {
-        carried: i,
-        tally: t,
+        carried: trace.len(),
+        tally,
     }
 }
 
@@ -74,6 +63,6 @@ pub fn run(
 {
     open_plain(meta, n);
     let course = carry_out(meta, n, trace, blocks, figures);
-    restore_kinds(blocks, course.tally.at);
+    restore_kinds(&mut blocks[..course.tally.at]);
     course
 }

@@ -3,5 +3,7 @@
 
 pub mod acts;
 pub mod course;
+pub mod say;
 pub mod steps;
+pub mod tally;
 mod word_lists;

@@ -1,9 +1,7 @@
-// What a release and a report write to the lent lists, and the kinds restored at the end.
-ghost use Rattle.std.specs.Prelude.{◌≡◌, true, ◌+◌, ◌≤◌, length};
-ghost use Rattle.std.proofs.Math.Seq.{paste};
+// What a release writes to the list of blocks, and the kinds restored at the end.
+ghost use Rattle.std.specs.Prelude.{◌≡◌, true, map};
 ghost use Rattle.words.specs.Word.{kind_of, granule_of, pack_block};
 ghost use Rattle.trace.specs.Words.{is_block, flip_kind, restore_kind};
-ghost use Rattle.trace.specs.way.Pre.{restore_kinds};
 
 use words::Word;
 
@@ -17,10 +15,7 @@ pub fn is_block(w: u64) -> bool
     ensures { result ≡ is_block w }
 {
     let kind = kind_of(w);
-    if kind == Word::SMALL {
-        return true;
-    }
-    kind == Word::MEDIUM
+    kind == Word::SMALL || kind == Word::MEDIUM
 }
 
 // A word with its kind changed.
@@ -42,40 +37,21 @@ pub fn flip_kind(w: u64) -> u64
     with_kind(Word::CHUNK, w)
 }
 
-// The first m figures of one list come to another, from place `at` on.
-pub fn paste(to: &mut [u64], at: usize, from: &[u64], m: usize)
-    requires { (at + m ≤ length to.old) × (m ≤ length from.now) }
-    ensures { to.new ≡ paste to.old at from.now m }
-{
-    let mut i = 0;
-    while i < m {
-        to[at + i] = from[i];
-        i += 1;
-    }
-}
-
 // The word of a block as it was handed out: a released one's kind is restored.
 fn restore_kind(w: u64) -> u64
     ensures { result ≡ restore_kind w }
 {
-    let kind = kind_of(w);
-    if kind == Word::NONE {
-        return with_kind(Word::SMALL, w);
+    match kind_of(w) {
+        Word::NONE => with_kind(Word::SMALL, w),
+        Word::CHUNK => with_kind(Word::MEDIUM, w),
+        _ => w,
     }
-    if kind == Word::CHUNK {
-        return with_kind(Word::MEDIUM, w);
-    }
-    w
 }
 
-// The first m words.
-pub fn restore_kinds(blocks: &mut [u64], m: usize)
-    requires { m ≤ length blocks.old }
-    ensures { blocks.new ≡ restore_kinds blocks.old m }
+pub fn restore_kinds(blocks: &mut [u64])
+    ensures { blocks.new ≡ map restore_kind blocks.old }
 {
-    let mut i = 0;
-    while i < m {
-        blocks[i] = restore_kind(blocks[i]);
-        i += 1;
+    for w in blocks.iter_mut() {
+        *w = restore_kind(*w);
     }
 }

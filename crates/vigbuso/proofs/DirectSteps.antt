@@ -1,5 +1,6 @@
 -- The ways out of the exported calls that go straight to the arena.
 use Rattle.facts.proofs.Prelude.{ℕ, zero, suc, ◌≤◌, arith, Bool, true, false, List, none, ◌≡◌, refl, sym, ap, ◌∙◌, leb, length, leb-true, eq-eqb, ne_eqb, and_right}
+use Rattle.std.specs.Prelude.{Ok}
 use mir.Val.{Fits, bool_byte}
 use mir.Syntax.{w32}
 use Rattle.words.specs.Host.{digit}
@@ -9,19 +10,14 @@ use Rattle.fields.specs.Field.{arena, size, get, Has, words}
 use Rattle.fields.specs.Outcome.{Did}
 use Rattle.fields.specs.Ranges.{within, between, max_pages, length_fault, meta_fault}
 use Rattle.fields.proofs.Sound.{sound, both}
-use Rattle.runs.specs.declared.Commit.{Commit}
-use Rattle.runs.specs.declared.Commit.TheVariants.{Refused, Run, Nothing}
-use Rattle.direct.specs.declared.Grow.{Grow}
-use Rattle.direct.specs.declared.Grow.TheVariants.{Yes, No}
 use Rattle.model.specs.declared.Figures.{Figures}
-use Rattle.direct.specs.declared.Report.{Report}
-use Rattle.direct.specs.declared.Report.TheVariants.{Reported}
 use Rattle.arena.specs.Calls.{Committed, commit_refused, commit_call, Done, done_refused, grow_call, release_call, contains_call}
 use Rattle.arena.specs.Open.{opened}
 use Rattle.runs.specs.way.Pre.{BookIn}
-use Rattle.runs.specs.Answer.{answer_of, Answers}
-use Rattle.direct.specs.Answer.{grown_as, Releases, report_of}
+use Rattle.runs.specs.Answer.{Commit, Refused, Run, Nothing, answer_of, Answers}
+use Rattle.direct.specs.Answer.{Grow, grown_as, Releases, Report, Reported, report_of}
 use Rattle.direct.specs.way.Acts.{Grew}
+use Rattle.direct.specs.way.Told.{told_grow}
 use Rattle.vigbuso.specs.Faults.{call_fault}
 use Rattle.vigbuso.specs.Direct.{open_fault, open_on, no_page, commit_on, CommitEnds, grow_on, GrowEnds, release_on, contains_on, report_on, figures_out, ReportEnds}
 
@@ -67,9 +63,9 @@ module _ (b : List ℕ) (n r : ℕ) (e : r ≡ length_fault n (length b)) where
     unfolding open_fault
     length-refused d = rw (← e, ne_eqb r 0 d)
 
-    pub rows_last : (k : ℕ) → r ≡ 0 → k ≡ rows_fault ws → k ≡ open_fault n ws b
+    pub rows_last : (k j : ℕ) → r ≡ 0 → k ≡ j → j ≡ rows_fault ws → k ≡ open_fault n ws b
     unfolding open_fault
-    rows_last k z f = rw (← e, eq-eqb r 0 z) f
+    rows_last k j z d f = rw (← e, eq-eqb r 0 z) (d ∙ f)
 
 module _ (b : List ℕ) (n : ℕ) (ws : List ℕ) (r : ℕ) (e : r ≡ open_fault n ws b) where
   pub open_refused : (r ≡ 0 → ⊥) → Did r b (open_on b n ws)
@@ -95,11 +91,9 @@ module _ (o : Done) (x : List ℕ) (s : Grow) (k : Grew s x o) where
   pub grow_ends_refused : (c g : ℕ) → s ≡ Grow.Refused c → GrowEnds o c x g g
   grow_ends_refused c g e = let z = sym k.answer ∙ e in record { code = rw z; book = k.book; grown = rw z }
 
-  pub grow_ends_yes : (g : ℕ) → s ≡ Yes → GrowEnds o 0 x g 1
-  grow_ends_yes g e = let z = sym k.answer ∙ e in record { code = rw z; book = k.book; grown = rw z }
-
-  pub grow_ends_no : (g : ℕ) → s ≡ No → GrowEnds o 0 x g 0
-  grow_ends_no g e = let z = sym k.answer ∙ e in record { code = rw z; book = k.book; grown = rw z }
+  pub grow_ends_told : (g : ℕ) (y : Bool) → s ≡ told_grow (Ok y) → GrowEnds o 0 x g (bool_byte y)
+  grow_ends_told g true e = let z = sym k.answer ∙ e in record { code = rw z; book = k.book; grown = rw z }
+  grow_ends_told g false e = let z = sym k.answer ∙ e in record { code = rw z; book = k.book; grown = rw z }
 
 module _ (o s : Report) (k : s ≡ o) where
   pub report_ends_refused : (c : ℕ) (fs : List ℕ) → s ≡ Report.Refused c → ReportEnds o c fs fs

@@ -1,4 +1,5 @@
 -- The ways out of the tests that come first, and what is known where none applies.
+--     numbered        a refusal's number is not 0
 --     call-book       no number from 1 to 3: neither 1 nor 2
 --     class-book, class-below    no number from 1 to 4: neither 1 nor 2, and the class is one of ours
 --     admits-book, admits-class    the same of `admits`
@@ -8,9 +9,16 @@ use Rattle.facts.proofs.Prelude.{ltb, leb, eq-eqb, ne_eqb, eqb-true, le-leb, lt-
 use mir.Val.{Fits}
 use mir.Syntax.{w32}
 use Rattle.words.specs.Host.{bad_host}
+use Rattle.words.specs.declared.refusal.Refusal.{Refusal}
+use Rattle.words.specs.Refusal.{number_of}
+use Rattle.words.proofs.Refusals.{positive}
 use Rattle.classes.specs.Shape.{class_count}
 use Rattle.fields.specs.Ranges.{meta_fault}
 use Rattle.vigbuso.specs.Faults.{call_fault, class_fault, admits}
+
+-- a refusal's number is not 0, which stands for none
+pub numbered : (e : Refusal) → number_of e ≡ 0 → ⊥
+numbered e z = omega (arith, positive e, z)
 
 -- a number f, then the test t of number k: where both give 0, neither applies
 record Clear (f : ℕ) (t : Bool) : Type 0 where

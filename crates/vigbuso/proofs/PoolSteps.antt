@@ -1,52 +1,68 @@
 -- The ways out of the exported calls of the pool.
-use Rattle.facts.proofs.Prelude.{ℕ, ◌-◌, ◌≤◌, ◌<◌, arith, Bool, true, false, cond, not, ◌&&◌, List, ◌≡◌, refl, sym, ◌∙◌, leb, length, eq-eqb, ne_eqb}
+use Rattle.facts.proofs.Prelude.{ℕ, ◌+◌, ◌-◌, ◌≤◌, ◌<◌, arith, Bool, true, false, cond, not, ◌&&◌, List, ◌≡◌, refl, sym, ◌∙◌, leb, length, eq-eqb, ne_eqb}
 use Rattle.facts.proofs.Prelude.{le-leb, lt-leb, not-true, not-false}
 use Rattle.words.specs.Limits.{class_rows}
-use Rattle.classes.specs.Shape.{shape_of, class_count, pool_id, number_of}
+use Rattle.classes.specs.Shape as Shape
+use Rattle.classes.specs.Shape.{shape_of, class_count, pool_id}
 use Rattle.fields.specs.Field.{arena, size, frontier, get, Has}
 use Rattle.fields.specs.Ranges.{meta_fault, format_valid, head_valid}
 use Rattle.fields.proofs.Sound.{head-frontier}
 use Rattle.model.specs.Release.{of_kind}
+use Rattle.std.specs.Prelude.{Result, Err}
+use Rattle.words.specs.declared.refusal.Refusal.{Refusal}
+use Rattle.words.specs.Refusal.{number_of, code_of}
+use Rattle.words.proofs.Refusals.{positive}
 use Rattle.stock.specs.way.Pre.{StockPre, PoolPre}
+use Rattle.stock.specs.way.Ends.{block_left, Granted}
 use Rattle.trace.specs.way.Pre.{BookPre}
 use Rattle.trace.specs.Words.{owner_at}
 use Rattle.pool.specs.Pool.{PoolRequest, alloc, free, trim, host_in}
-use Rattle.poolcalls.specs.Calls.{request_on, alloc_on, free_on, trim_on, granted_in, stocked_in}
+use Rattle.poolcalls.specs.Calls.{PoolReply, request_on, alloc_on, free_on, trim_on, granted_in, stocked_in}
 use Rattle.vigbuso.specs.Faults.{class_fault, admits}
 use Rattle.vigbuso.specs.Pool.{pool_on, class_on, granted_on, stocked_on, BlockEnds, FreeEnds}
 use Rattle.vigbuso.proofs.FaultSteps.{class-book, class-below, admits-book, admits-class}
 use Rattle.vigbuso.proofs.DirectSteps.{book_in}
 
-pub pool-pre : (b : List ℕ) (h r c n : ℕ) → r ≡ class_fault b h class_count c → r ≡ 0 → n ≡ get b (arena size) → PoolPre n b c
-pool-pre b h r c n e z f = let k = book_in b (class-book b h class_count c r e z) n f in record { known = class-below b h class_count c r e z; few = k.small; long = k.long }
+pub pool-pre : (b : List ℕ) (h c n : ℕ) → 0 ≡ class_fault b h class_count c → n ≡ get b (arena size) → PoolPre n b c
+pool-pre b h c n e f = let k = book_in b (class-book b h class_count c 0 e refl) n f in record { known = class-below b h class_count c 0 e refl; few = k.small; long = k.long }
 
-module _ (b : List ℕ) (c r h : ℕ) (e : r ≡ class_fault b h class_count c) where
-  module _ (d : r ≡ 0 → ⊥) where
-    pub alloc-unfit : (w : ℕ) → BlockEnds (pool_on b c (alloc h)) r b w w
+module _ (b : List ℕ) (c h : ℕ) where
+  module _ (q : Refusal) (e : number_of q ≡ class_fault b h class_count c) where
+    told : number_of q ≡ 0 → ⊥
+    told z = omega (arith, positive q)
+
+    pub alloc-unfit : Granted (pool_on b c (alloc h)) (Err q) b
     unfolding pool_on
-    alloc-unfit w = rw (← e, ne_eqb r 0 d) (record { code = refl; book = refl; block = refl })
+    alloc-unfit = rw (← e, ne_eqb (number_of q) 0 told) (record { ends = λ w. record { code = refl; book = refl; block = refl } })
 
-    pub free-unfit : (w : ℕ) → FreeEnds (pool_on b c (free h w)) r b
+    pub free-unfit : (w : ℕ) → FreeEnds (pool_on b c (free h w)) (number_of q) b
     unfolding pool_on
-    free-unfit w = rw (← e, ne_eqb r 0 d) (record { code = refl; book = refl })
+    free-unfit w = rw (← e, ne_eqb (number_of q) 0 told) (record { code = refl; book = refl })
 
-    pub trim-unfit : (w : ℕ) → BlockEnds (pool_on b c (trim h)) r b w w
+    pub trim-unfit : Granted (pool_on b c (trim h)) (Err q) b
     unfolding pool_on
-    trim-unfit w = rw (← e, ne_eqb r 0 d) (record { code = refl; book = refl; block = refl })
+    trim-unfit = rw (← e, ne_eqb (number_of q) 0 told) (record { ends = λ w. record { code = refl; book = refl; block = refl } })
 
-  module _ (z : r ≡ 0) (n : ℕ) (f : n ≡ get b (arena size)) (s : ℕ) (b' : List ℕ) where
+  module _ (n : ℕ) (e : 0 ≡ class_fault b h class_count c) (f : n ≡ get b (arena size)) (b' : List ℕ) where
     goes : (x : PoolRequest) → host_in x ≡ h → pool_on b c x ≡ request_on n b c x
     unfolding pool_on
-    goes x i = rw (i, ← e, eq-eqb r 0 z, f)
+    goes x i = rw (i, ← e, f)
 
-    pub alloc_goes : (old new : ℕ) → BlockEnds (alloc_on n b c h) s b' old new → BlockEnds (pool_on b c (alloc h)) s b' old new
-    alloc_goes old new t = rw (goes (alloc h) refl) t
+    pub alloc_goes : (q : Result ℕ Refusal) → Granted (alloc_on n b c h) q b' → Granted (pool_on b c (alloc h)) q b'
+    alloc_goes q t = rw (goes (alloc h) refl) t
 
-    pub free-goes : (w : ℕ) → FreeEnds (free_on n b c h w) s b' → FreeEnds (pool_on b c (free h w)) s b'
-    free-goes w t = rw (goes (free h w) refl) t
+    pub free-goes : (w k : ℕ) → FreeEnds (free_on n b c h w) k b' → FreeEnds (pool_on b c (free h w)) k b'
+    free-goes w k t = rw (goes (free h w) refl) t
 
-    pub trim-goes : (old new : ℕ) → BlockEnds (trim_on n b c h) s b' old new → BlockEnds (pool_on b c (trim h)) s b' old new
-    trim-goes old new t = rw (goes (trim h) refl) t
+    pub trim-goes : (q : Result ℕ Refusal) → Granted (trim_on n b c h) q b' → Granted (pool_on b c (trim h)) q b'
+    trim-goes q t = rw (goes (trim h) refl) t
+
+-- what C is told
+pub answered : (s : PoolReply) (q : Result ℕ Refusal) (b : List ℕ) (r old new : ℕ) → r ≡ code_of q → new ≡ block_left q old → Granted s q b → BlockEnds s r b old new
+answered s q b r old new i j t = rw (i, j) (t.ends old)
+
+pub freed : (s : PoolReply) (b : List ℕ) (r k : ℕ) → r ≡ k → FreeEnds s k b → FreeEnds s r b
+freed s b r k i t = rw i t
 
 -- ---- the number of the class that has a block's page
 module _ (b : List ℕ) (w r : ℕ) (e : r ≡ meta_fault b) where
@@ -77,23 +93,22 @@ module _ (b : List ℕ) (w r : ℕ) (e : r ≡ meta_fault b) where
               let l = head-frontier n b (sym et ∙ not-false t u) in
               record { few = omega (arith, k.small); long = omega (arith, k.long) }
 
-          module _ (k : ℕ) (ek : k ≡ owner_at m b w) where
-            held : class_on b w ≡ cond (leb 1 k && leb k class_rows) (number_of (k - 1)) class_count
-            unfolding class_on
-            held = rw (← e, eq-eqb r 0 z, ← f, ← et, not-false t u, ← em, ← ek)
+          held : (k : ℕ) → k ≡ owner_at m b w → class_on b w ≡ cond (leb 1 k && leb k class_rows) (Shape.number_of (k - 1)) class_count
+          unfolding class_on
+          held k ek = rw (← e, eq-eqb r 0 z, ← f, ← et, not-false t u, ← em, ← ek)
 
-            pub class-none : k ≡ 0 → class_count ≡ class_on b w
-            class-none o = sym (held ∙ rw o)
+          pub class-none : 0 ≡ owner_at m b w → class_count ≡ class_on b w
+          class-none o = sym (held 0 o)
 
-            module _ (d : k ≡ 0 → ⊥) where
-              some : leb 1 k ≡ true
-              some = le-leb 1 k (omega (arith, d))
+          module _ (d : ℕ) (ed : d + 1 ≡ owner_at m b w) where
+            some : leb 1 (d + 1) ≡ true
+            some = le-leb 1 (d + 1) (omega arith)
 
-              pub class-high : class_rows < k → class_count ≡ class_on b w
-              class-high h = sym (held ∙ rw (some, lt-leb k class_rows h))
+            pub class-high : class_rows ≤ d → class_count ≡ class_on b w
+            class-high h = sym (held (d + 1) ed ∙ rw (some, lt-leb (d + 1) class_rows (omega arith)))
 
-              pub class-held : k ≤ class_rows → (s : ℕ) → s ≡ number_of (k - 1) → s ≡ class_on b w
-              class-held h s es = es ∙ sym (held ∙ rw (some, le-leb k class_rows h))
+            pub class-held : d < class_rows → (s : ℕ) → s ≡ Shape.number_of d → s ≡ class_on b w
+            class-held h s es = let one : d + 1 - 1 ≡ d = omega arith in es ∙ sym (held (d + 1) ed ∙ rw (some, le-leb (d + 1) class_rows (omega arith), one))
 
 -- ---- a granted block, and the blocks in stock
 module _ (b : List ℕ) (c : ℕ) (t : Bool) (e : t ≡ admits b c) where

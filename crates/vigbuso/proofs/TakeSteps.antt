@@ -41,8 +41,8 @@ module _ (b : List ℕ) (h many c r : ℕ) (e : r ≡ class_fault b h many c) (l
       let z = ne_eqb r 0 d in
       rw (← e, z) (record { code = code_is 0 false r; book = refl; list = refl; count = rw z at (count-is 0 false r m); virgin = rw z at (virgin-is 0 false r v) })
 
-  pub take-goes : (n s : ℕ) (x y : List ℕ) (m m' v v' : ℕ) → r ≡ 0 → n ≡ get b (arena size) → TakesInto s x y m m' v v' (take_call n b (low + c) (shape_of (low + c)) h l) → TakeEnds (take_on low many b c h l) s x y m m' v v'
+  pub take-goes : (n s s₀ : ℕ) (x y : List ℕ) (m m' v v' : ℕ) → r ≡ 0 → n ≡ get b (arena size) → TakesInto s₀ x y m m' v v' (take_call n b (low + c) (shape_of (low + c)) h l) → s ≡ s₀ → TakeEnds (take_on low many b c h l) s x y m m' v v'
   unfolding take_on
-  take-goes n s x y m m' v v' z f k =
+  take-goes n s s₀ x y m m' v v' z f k g =
       let t = take_call n b (low + c) (shape_of (low + c)) h l in
-      rw (← e, eq-eqb r 0 z, ← f) (record { code = k.code ∙ code_is t.count t.virgin t.code; book = k.book; list = k.list; count = k.count ∙ count-is t.count t.virgin t.code m; virgin = k.virgin ∙ virgin-is t.count t.virgin t.code v })
+      rw (← e, eq-eqb r 0 z, ← f) (record { code = g ∙ k.code ∙ code_is t.count t.virgin t.code; book = k.book; list = k.list; count = k.count ∙ count-is t.count t.virgin t.code m; virgin = k.virgin ∙ virgin-is t.count t.virgin t.code v })

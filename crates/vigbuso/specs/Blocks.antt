@@ -6,17 +6,13 @@ use Rattle.words.specs.Host.{digit}
 use Rattle.classes.specs.declared.Shape.{Shape}
 use Rattle.classes.specs.Shape.{shape_of}
 use Rattle.fields.specs.Field.{arena, size, get}
-use Rattle.take.specs.declared.call.Take.{Take}
-use Rattle.take.specs.declared.call.Take.TheVariants.{Refused, Took}
 use Rattle.calls.specs.Take as Heap
 use Rattle.calls.specs.Take.{took_none, take_call}
-use Rattle.take.specs.Answer.{answer_of}
+use Rattle.take.specs.Answer.{Take, Refused, Took, answer_of}
 use Rattle.calls.specs.Release as Back
 use Rattle.calls.specs.Release.{released_none, release_blocks}
 use Rattle.calls.specs.Chunks.{ChunksReleased, chunks_none, release_chunks}
-use Rattle.release.specs.declared.Released.{Released}
-use Rattle.release.specs.declared.Released.TheVariants.{Fate}
-use Rattle.release.specs.Answer.{answer_as}
+use Rattle.release.specs.Answer.{Released, Fate, answer_as}
 use Rattle.vigbuso.specs.Faults.{class_fault}
 
 -- a take of class c among those of ids low to low + many - 1: 0 and 64 for the small ones, 64 and 12 for the medium ones; 76 and 76 for the pool's, which no function exports

@@ -7,16 +7,10 @@ use Rattle.fields.specs.Field.{arena, size, get}
 use Rattle.fields.specs.Outcome.{Outcome, ends}
 use Rattle.fields.specs.Ranges.{length_fault, meta_fault}
 use Rattle.model.specs.declared.Figures.{Figures}
-use Rattle.runs.specs.declared.Commit.{Commit}
-use Rattle.runs.specs.declared.Commit.TheVariants.{Refused, Run, Nothing}
-use Rattle.direct.specs.declared.Grow.{Grow}
-use Rattle.direct.specs.declared.Grow.TheVariants.{Yes, No}
-use Rattle.direct.specs.declared.Report.{Report}
-use Rattle.direct.specs.declared.Report.TheVariants.{Reported}
 use Rattle.arena.specs.Calls.{Committed, commit_refused, commit_call, Done, done_refused, grow_call, release_call, contains_call}
 use Rattle.arena.specs.Open.{opened}
-use Rattle.runs.specs.Answer.{commit_answer, commit_code}
-use Rattle.direct.specs.Answer.{grown_as, grow_code, report_of}
+use Rattle.runs.specs.Answer.{Commit, Refused, Run, Nothing, commit_answer, commit_code}
+use Rattle.direct.specs.Answer.{Grow, Yes, No, grown_as, grow_code, Report, Reported, report_of}
 use Rattle.vigbuso.specs.Faults.{call_fault}
 
 -- ---- opening

@@ -5,5 +5,11 @@ ghost use Rattle.game.specs.Game.{asker_wins, GameEnds};
 pub extern "C" fn vigbuso_asker_wins(pages: u64, live: u64, moves: u64, wins: &mut u32) -> u32
     ensures { GameEnds (asker_wins pages live moves) result wins.old wins.new }
 {
-    game::asker_wins(pages, live, moves, wins)
+    match game::asker_wins(pages, live, moves) {
+        Ok(won) => {
+            *wins = u32::from(won);
+            0
+        }
+        Err(refusal) => refusal.number(),
+    }
 }

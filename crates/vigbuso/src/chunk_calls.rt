@@ -1,8 +1,9 @@
 // The group release. Any number, any lists and any book is taken: numbers 1 to 4 stand before the call.
 ghost use Rattle.vigbuso.specs.Blocks.{chunks_on, ChunksEnds};
 
-use crate::faults::class_fault;
+use crate::faults::check_class;
 use classes::NUM_CLASSES;
+use words::refusal::code_of;
 
 #[unsafe(no_mangle)]
 pub extern "C" fn vigbuso_release_bin_chunks(
@@ -15,11 +16,10 @@ pub extern "C" fn vigbuso_release_bin_chunks(
 ) -> u32
     ensures { ChunksEnds (chunks_on meta.old class host list.now chunks.now fates.old) result meta.new fates.new }
 {
-    let fault = class_fault(meta, host, NUM_CLASSES, class);
-    if fault != 0 {
-        return fault;
-    }
-    let size = fields::arena::size(meta);
+    let size = match check_class(meta, host, NUM_CLASSES, class) {
+        Ok(size) => size,
+        Err(refusal) => return refusal.number(),
+    };
     let shape = classes::shape_of(class);
-    chunks::release_chunks(meta, size, class, shape, host, list, chunks, fates)
+    code_of(chunks::release_chunks(meta, size, class, shape, host, list, chunks, fates))
 }

@@ -2,10 +2,12 @@
 ghost use Rattle.std.specs.Prelude.{◌+◌, ◌≤◌};
 ghost use Rattle.classes.specs.Shape.{class_count};
 ghost use Rattle.release.specs.way.Act.{Answered};
+ghost use Rattle.release.specs.way.Told.{told};
 ghost use Rattle.vigbuso.specs.Blocks.{release_on, ReleaseEnds};
 
-use crate::faults::class_fault;
-use release::Released;
+use crate::faults::check_class;
+use release::Fate;
+use words::refusal::Refusal;
 
 // A release of a class among those of ids `low` to `low + many - 1`.
 fn release_on(
@@ -15,17 +17,12 @@ fn release_on(
     class: u32,
     host: u32,
     list: &[u64],
-) -> Released
+) -> Result<Fate, Refusal>
     requires { low + many ≤ class_count }
-    ensures { Answered result meta.new (release_on low many meta.old class host list.now) }
+    ensures { Answered (told result) meta.new (release_on low many meta.old class host list.now) }
 {
-    let fault = class_fault(meta, host, many, class);
-    if fault != 0 {
-        return Released::Refused(fault);
-    }
-    let size = fields::arena::size(meta);
-    let id = low + class;
-    release::release_blocks(meta, size, id, host, list)
+    let size = check_class(meta, host, many, class)?;
+    release::release_blocks(meta, size, low + class, host, list)
 }
 
 #[unsafe(no_mangle)]
@@ -39,9 +36,9 @@ pub extern "C" fn vigbuso_release_blocks(
     ensures { ReleaseEnds (release_on 0 64 meta.old class host list.now) result meta.new fate.old fate.new }
 {
     match release_on(meta, 0, 64, class, host, list) {
-        Released::Refused(k) => k,
-        Released::Fate(f) => {
-            *fate = f;
+        Err(refusal) => refusal.number(),
+        Ok(f) => {
+            *fate = f.number();
             0
         }
     }
@@ -58,9 +55,9 @@ pub extern "C" fn vigbuso_medium_release_blocks(
     ensures { ReleaseEnds (release_on 64 12 meta.old class host list.now) result meta.new fate.old fate.new }
 {
     match release_on(meta, 64, 12, class, host, list) {
-        Released::Refused(k) => k,
-        Released::Fate(f) => {
-            *fate = f;
+        Err(refusal) => refusal.number(),
+        Ok(f) => {
+            *fate = f.number();
             0
         }
     }

@@ -10,5 +10,11 @@ pub extern "C" fn vigbuso_short_histories(
 ) -> u32
     ensures { ListingEnds (short_histories pages calls list.old) result list.new written.old written.new }
 {
-    listing::short_histories(pages, calls, list, written)
+    match listing::short_histories(pages, calls, list) {
+        Ok(many) => {
+            *written = many;
+            0
+        }
+        Err(refusal) => refusal.number(),
+    }
 }

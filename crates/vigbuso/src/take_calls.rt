@@ -1,9 +1,11 @@
 // The takes. Any number, any list and any book is taken: numbers 1 to 4 stand before each call.
 ghost use Rattle.std.specs.Prelude.{◌+◌, ◌≤◌};
 ghost use Rattle.classes.specs.Shape.{class_count};
+ghost use Rattle.words.specs.Refusal.{code_of};
 ghost use Rattle.vigbuso.specs.Blocks.{take_on, TakeEnds};
 
-use crate::faults::class_fault;
+use crate::faults::check_class;
+use words::refusal::{Refusal, code_of};
 
 // A take of a class among those of ids `low` to `low + many - 1`.
 fn take_on(
@@ -15,15 +17,11 @@ fn take_on(
     list: &mut [u64],
     count: &mut u32,
     virgin: &mut u32,
-) -> u32
+) -> Result<(), Refusal>
     requires { low + many ≤ class_count }
-    ensures { TakeEnds (take_on low many meta.old class host list.old) result meta.new list.new count.old count.new virgin.old virgin.new }
+    ensures { TakeEnds (take_on low many meta.old class host list.old) (code_of result) meta.new list.new count.old count.new virgin.old virgin.new }
 {
-    let fault = class_fault(meta, host, many, class);
-    if fault != 0 {
-        return fault;
-    }
-    let size = fields::arena::size(meta);
+    let size = check_class(meta, host, many, class)?;
     take::call::take_into(meta, size, low + class, host, list, count, virgin)
 }
 
@@ -38,7 +36,7 @@ pub extern "C" fn vigbuso_take_blocks(
 ) -> u32
     ensures { TakeEnds (take_on 0 64 meta.old class host list.old) result meta.new list.new count.old count.new virgin.old virgin.new }
 {
-    take_on(meta, 0, 64, class, host, list, count, virgin)
+    code_of(take_on(meta, 0, 64, class, host, list, count, virgin))
 }
 
 #[unsafe(no_mangle)]
@@ -52,5 +50,5 @@ pub extern "C" fn vigbuso_medium_take_blocks(
 ) -> u32
     ensures { TakeEnds (take_on 64 12 meta.old class host list.old) result meta.new list.new count.old count.new virgin.old virgin.new }
 {
-    take_on(meta, 64, 12, class, host, list, count, virgin)
+    code_of(take_on(meta, 64, 12, class, host, list, count, virgin))
 }

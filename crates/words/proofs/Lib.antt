@@ -1,3 +1,4 @@
 pub mod Answers
 pub mod Masks
 pub mod RoundTrip
+pub mod Refusals

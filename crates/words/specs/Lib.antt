@@ -1,3 +1,4 @@
 pub mod Word
 pub mod Limits
 pub mod Host
+pub mod Refusal

@@ -4,6 +4,7 @@
 
 mod host_bits;
 pub mod limits;
+pub mod refusal;
 mod word_bits;
 
 // A word with its kind in the top two bits: none, a small block, a medium block or a chunk.

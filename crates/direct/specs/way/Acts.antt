@@ -3,15 +3,12 @@
 use Rattle.std.specs.Prelude.{ℕ, List, true, cond, not, ◌≡◌}
 use Rattle.facts.specs.Lists.{is_some}
 use Rattle.model.specs.Heap.{direct}
-use Rattle.runs.specs.declared.Commit.{Commit}
-use Rattle.runs.specs.declared.Commit.TheVariants.{Refused, Run, Nothing}
-use Rattle.direct.specs.declared.Grow.{Grow}
-use Rattle.direct.specs.declared.Grow.TheVariants.{Yes, No}
 use Rattle.arena.specs.Owners.{owner_code}
 use Rattle.arena.specs.Valid.{give_valid, grow_valid}
 use Rattle.arena.specs.Calls.{Committed, commit_refused, Done, done_refused, given}
 use Rattle.runs.specs.way.Act.{grow_acts}
-use Rattle.direct.specs.Answer.{grown_as}
+use Rattle.runs.specs.Answer.{Commit, Refused, Run, Nothing}
+use Rattle.direct.specs.Answer.{Grow, Yes, No, grown_as}
 
 pub record Grew (r : Grow) (b : List ℕ) (o : Done) : Type 0 where
   pub answer : r ≡ grown_as o.code o.yes

@@ -3,13 +3,15 @@
 --     Parked       a function answered a fate and left the book, as the outcome says
 --     Answered     a call answered a fate or a refusal's number, and left the book
 --     taken_by      the listed blocks out no longer, by words of their marks or by the list
---     Prepared     the tests before 13's last gave a refusal's number, or the run, with the listed blocks marked or not
+--     Prepared     the tests before 13's last gave a refusal, or the run, with the listed blocks marked or not
 --     Attempted    the listed blocks marked at once, or the book as it was
 --     Finished     13's last test, and the act
-use Rattle.std.specs.Prelude.{◌≡◌, ℕ, ◌+◌, ◌<◌, ◌≤◌, Bool, true, false, cond, not, ◌&&◌, List, map, length, ◌==◌, nat_eq, nat_lt, slice_index}
+use Rattle.std.specs.Prelude.{◌≡◌, ℕ, ◌+◌, ◌<◌, ◌≤◌, Bool, true, false, cond, not, ◌&&◌, Option, Result, Ok, Err, List, map, length, ◌==◌, nat_eq, nat_lt, slice_index}
 use Rattle.facts.specs.Lists.{is_nil, every}
 use Rattle.words.specs.Host.{discard_zeroed}
 use Rattle.words.specs.Limits.{class_rows}
+use Rattle.words.specs.declared.refusal.Refusal.{Refusal}
+use Rattle.words.specs.Refusal.{number_of}
 use Rattle.classes.specs.declared.Shape.{Shape}
 use Rattle.classes.specs.way.Sound.{Sound}
 use Rattle.fields.specs.Field.{arena, class, frontier, cold_count, words, get}
@@ -24,12 +26,8 @@ use Rattle.pages.specs.Stack.{set_outs, pushed, index_of, is_block, page_slots}
 use Rattle.calls.specs.Release as Heap
 use Rattle.calls.specs.Out.{start_of, in_run_of, out_fault}
 use Rattle.calls.specs.Release.{first_of, page_valid, row_valid, release_valid, placed, last_step}
-use Rattle.release.specs.declared.Released.{Released}
-use Rattle.release.specs.declared.Released.TheVariants.{Refused, Fate}
-use Rattle.release.specs.declared.Verdict.{Verdict}
-use Rattle.release.specs.declared.Verdict.TheVariants.{No, In}
-use Rattle.release.specs.declared.Found.{Found}
-use Rattle.release.specs.Answer.{answer_as}
+use Rattle.release.specs.declared.Marked.{Marked}
+use Rattle.release.specs.Answer.{Released, Refused, Fate, answer_as}
 use Rattle.release.specs.way.Pre.{ClassPre}
 use Rattle.release.specs.way.Blocks.{found}
 use Rattle.release.specs.way.Marks.{fresh_book, all_fresh, take_marks}
@@ -137,15 +135,15 @@ pub record PreparedAt (q m : ℕ) (b' : List ℕ) (n : ℕ) (b : List ℕ) (c : 
   pub taken : taken_by b' sh q m ws ≡ set_outs b q 0 (map (index_of sh q) ws)
   pub cleared : clear_marks b' q m ≡ b
 
-unfoldable pub Prepared : Verdict → List ℕ → ℕ → List ℕ → ℕ → Shape → List ℕ → Type 0
-Prepared (No k) b' n b c sh ws = (h : ℕ) → Answered (Refused k) b' (Heap.release_blocks n b c sh h ws)
-Prepared (In q m) b' n b c sh ws = PreparedAt q m b' n b c sh ws
+unfoldable pub Prepared : Result Marked Refusal → List ℕ → ℕ → List ℕ → ℕ → Shape → List ℕ → Type 0
+Prepared (Err e) b' n b c sh ws = (h : ℕ) → Answered (Refused (number_of e)) b' (Heap.release_blocks n b c sh h ws)
+Prepared (Ok r) b' n b c sh ws = PreparedAt r.run r.marks b' n b c sh ws
 
 -- the first word is of a run of the class, and all listed words are its blocks, out and not marked
 abbrev pub tried : ℕ → List ℕ → ℕ → Shape → List ℕ → Bool
 tried n b c sh ws = in_run_of n b sh c (slice_index ws 0) && all_fresh b sh (start_of b (slice_index ws 0)) ws
 
-pub record Attempted (r : Found) (b' : List ℕ) (n : ℕ) (b : List ℕ) (c : ℕ) (sh : Shape) (ws : List ℕ) : Type 0 where
+pub record Attempted (r : Option ℕ) (b' : List ℕ) (n : ℕ) (b : List ℕ) (c : ℕ) (sh : Shape) (ws : List ℕ) : Type 0 where
   pub answer : r ≡ found (tried n b c sh ws) (start_of b (slice_index ws 0))
   pub left : b' ≡ cond (tried n b c sh ws) (fresh_book b sh (start_of b (slice_index ws 0)) ws) b
 

@@ -1,5 +1,5 @@
 -- What marking and its tests ask and answer, and the book that they leave.
-use Rattle.std.specs.Prelude.{◌≡◌, ℕ, ◌+◌, ◌-◌, ◌*◌, ◌%◌, ◌^◌, ◌<◌, ◌≤◌, min, Bool, true, false, cond, List, length, drop, slice_index}
+use Rattle.std.specs.Prelude.{◌≡◌, ℕ, ◌+◌, ◌-◌, ◌*◌, ◌%◌, ◌^◌, ◌<◌, ◌≤◌, min, Bool, true, false, cond, None, List, length, drop, slice_index}
 use Rattle.facts.specs.Lists.{every}
 use Rattle.classes.specs.declared.Shape.{Shape}
 use Rattle.classes.specs.way.Sound.{Sound}
@@ -8,7 +8,6 @@ use Rattle.fields.specs.Ranges.{max_pages}
 use Rattle.model.specs.Page.{word_of}
 use Rattle.model.specs.Release.{of_kind}
 use Rattle.calls.specs.Out.{unmarked, repeats, out_fault}
-use Rattle.release.specs.declared.Found.TheVariants.{Nothing}
 use Rattle.release.specs.way.Blocks.{block_in}
 use Rattle.release.specs.way.Pre.{ClassPre}
 use Rattle.release.specs.way.Marks.{set_mark, fresh_at, fresh_bits, set_bits, marked_in, mark_count, mark_book, fresh_in, fresh_count, fresh_book, all_fresh}
@@ -81,7 +80,7 @@ pub record MarkedTo (r : ℕ) (b' b : List ℕ) (sh : Shape) (q : ℕ) (ws : Lis
 
 -- the word behind place i is no block of the run at q, if there is one
 pub record Alone (t : Bool) (sh : Shape) (q : ℕ) (ws : List ℕ) (i : ℕ) : Type 0 where
-  pub told : t ≡ true → i + 1 < length ws → block_in sh q (slice_index ws (i + 1)) ≡ Nothing
+  pub told : t ≡ true → i + 1 < length ws → block_in sh q (slice_index ws (i + 1)) ≡ None
 
 pub record MarkedList (r : ℕ) (b' : List ℕ) (n : ℕ) (b : List ℕ) (c : ℕ) (sh : Shape) (ws : List ℕ) : Type 0 where
   pub answer : r ≡ mark_count n b c sh ws

@@ -1,11 +1,10 @@
 -- The call of a line on the heap (src/arena_calls.rt): it is the exported function's, on the line's numbers, and what that one returns
--- and writes is put down as the answers. ns are the line's numbers, ws their low halves, a the places for answers before the call.
+-- and writes is put down as the answers. a are the places for answers before the call.
 --     Made      the book and the answers after a call
 use Rattle.std.specs.Prelude.{◌≡◌, ℕ, List, [], ◌∷◌, slice_index, slice_set}
 use Rattle.arena.specs.Calls.{Committed, Done}
 use Rattle.runs.specs.Answer.{commit_answer, commit_code}
-use Rattle.direct.specs.declared.Report.{Report}
-use Rattle.direct.specs.Answer.{grown_as, grow_code}
+use Rattle.direct.specs.Answer.{grown_as, grow_code, Report}
 use Rattle.vigbuso.specs.Direct.{first_out, fresh_out, grown_out, report_code, figures_out}
 use Rattle.replay.specs.way.Line.{low}
 

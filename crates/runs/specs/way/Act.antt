@@ -12,7 +12,6 @@ use Rattle.model.specs.declared.Hole.{Hole}
 use Rattle.runs.specs.declared.Arena.{Arena}
 use Rattle.runs.specs.declared.record.Gain.{Gain}
 use Rattle.runs.specs.way.Change.{gained_by}
-use Rattle.runs.specs.declared.Choice.{Choice}
 use Rattle.runs.specs.declared.holes.Edges.{Edges}
 use Rattle.runs.specs.declared.holes.Neighbours.{Neighbours}
 use Rattle.arena.specs.Load.{load_hole, load_holes}
@@ -20,7 +19,7 @@ use Rattle.arena.specs.Store.{store_hole}
 use Rattle.runs.specs.way.Record.{record_of, store_record, advanced, counted, abandoning}
 use Rattle.arena.specs.Valid.{record_valid}
 use Rattle.arena.specs.Owners.{own}
-use Rattle.runs.specs.way.Plan.{plan_of, neighbours_of}
+use Rattle.runs.specs.way.Plan.{Choice, plan_of, neighbours_of}
 use Rattle.arena.specs.Calls.{Committed, commit_refused}
 
 -- ---- the record

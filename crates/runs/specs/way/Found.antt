@@ -4,8 +4,7 @@ use Rattle.facts.specs.Lists.{is_some}
 use Rattle.words.specs.Host.{host_max}
 use Rattle.arena.specs.Valid.{record_valid}
 use Rattle.arena.specs.Calls.{Committed, commit_for}
-use Rattle.runs.specs.declared.Choice.{Choice}
-use Rattle.runs.specs.way.Plan.{plan_as}
+use Rattle.runs.specs.way.Plan.{Choice, plan_as}
 use Rattle.runs.specs.way.Act.{planned}
 
 unfoldable pub found : ℕ → List ℕ → ℕ → Choice

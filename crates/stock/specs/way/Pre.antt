@@ -30,11 +30,10 @@ pub record GranulePre (n : ℕ) (b : List ℕ) (c g : ℕ) : Type 0 where
   pub long : words n ≤ length b
   pub low : g < 4096 * n
 
--- m blocks of the arena, as a take answers them
-pub record ListPre (n : ℕ) (ws : List ℕ) (m : ℕ) : Type 0 where
-  pub few : m ≤ 64
-  pub there : m ≤ length ws
-  pub low : (i : ℕ) → i < m → granule_of (slice_index ws i) < 4096 * n
+-- blocks of the arena, as a take answers them
+pub record ListPre (n : ℕ) (ws : List ℕ) : Type 0 where
+  pub few : length ws ≤ 64
+  pub low : (i : ℕ) → i < length ws → granule_of (slice_index ws i) < 4096 * n
 
 -- a page of the arena, and a small class
 pub record PagePre (n : ℕ) (b : List ℕ) (c p : ℕ) : Type 0 where

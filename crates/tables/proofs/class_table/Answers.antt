@@ -1,33 +1,23 @@
-use Rattle.facts.proofs.Prelude.{pos_of_ne-zero, sym, ◌∙◌}
-use Rattle.tables.proofs.Answer.{growth_of, rate_refused, top-refused, no-slots, no_room, too_few, filled}
+use Rattle.facts.proofs.Prelude.{◌≡◌, ◌≤◌, false, length, sym, length-take-le}
+use Rattle.std.proofs.lemmas.Result.{err_from_is_err_and}
+use Rattle.tables.specs.Table.{bad_slots, table}
+use Rattle.tables.proofs.Answer.{rate_refused, slots_refused, fitting, filled}
 use Rattle.tables.proofs.class_table.Goals as goal
 
-pub returns-then-bad_rate : goal.returns-then-bad_rate
-returns-then-bad_rate c = search rate_refused
+pub returns-in_err-rate : goal.returns-in_err-rate
+returns-in_err-rate c =
+    let p = err_from_is_err_and c.from_residual.result c.from_residual.ensures.1 in
+    rw (p.1, p.2) (rate_refused c.args.a c.args.b c.args.top c.args.slots c.args.list.now c.in_err-rate.field-0.0 c.in_err-rate.ensures.code)
 
-pub returns-then-bad_top : goal.returns-then-bad_top
-returns-then-bad_top c = search top-refused
-
-pub returns-then-slots-eq0 : goal.returns-then-slots-eq0
-returns-then-slots-eq0 c = search no-slots
-
-pub returns-then-list-slots : goal.returns-then-list-slots
-returns-then-list-slots c = search no_room
-
-pub last_size-requires : goal.last_size-requires
-last_size-requires c =
-    let rate = c.bad_rate.ensures in
-    let top = c.bad_top.ensures in
-    record { growth = growth_of _ _ _ (sym rate ∙ c.if-bad_rate.false) (sym top ∙ c.if-bad_top.false); le_slots = pos_of_ne-zero c.if-slots-eq0.false }
-
-pub returns-then-last_size-top : goal.returns-then-last_size-top
-returns-then-last_size-top c = search too_few
-
-pub fill-requires : goal.fill-requires
-fill-requires c =
-    let rate = c.bad_rate.ensures in
-    let top = c.bad_top.ensures in
-    record { growth = growth_of _ _ _ (sym rate ∙ c.if-bad_rate.false) (sym top ∙ c.if-bad_top.false); slots_in_bounds = c.if-list-slots.false }
+pub returns-then-bad_slots : goal.returns-then-bad_slots
+returns-then-bad_slots c =
+    let rate = c.in_ok-rate.ensures.rate in
+    slots_refused c.args.a c.args.b c.args.top c.args.slots c.args.list.now c.in_ok-rate.ensures.code (sym (rw (rate.0, rate.1, rate.2) at c.if-bad_slots.ensures))
 
 pub returns : goal.returns
-returns c = search filled
+returns c =
+    let rate = c.in_ok-rate.ensures.rate in
+    let good : bad_slots c.args.a c.args.b c.args.top c.args.slots (length c.args.list.now) ≡ false = sym (rw (rate.0, rate.1, rate.2) at c.if-bad_slots.ensures) in
+    let fits : c.args.slots ≤ length c.args.list.now = fitting c.args.a c.args.b c.args.top c.args.slots c.args.list.now good in
+    let whole : c.fill.new.list ≡ table c.args.a c.args.b c.args.top c.args.slots = rw (rate.0, rate.1, rate.2, length-take-le c.args.slots c.args.list.now fits) at c.fill.ensures in
+    filled c.args.a c.args.b c.args.top c.args.slots c.args.list.now c.in_ok-rate.ensures.code good c.fill.new.list whole

@@ -1,10 +1,12 @@
 -- What a take's plan and its fill ask of the words, and what a plan answers.
 --     TakePre      a book of n pages, its frontier in range, and a class with its shape
---     share        the blocks that the walk finds on the page with a code, 0 where a test fails
+--     share        the blocks that the walk finds on the page with a code; 13 where a test fails
 --     Foretold     the plan of one source: a refusal where a test fails, else what the fill will yield
-use Rattle.std.specs.Prelude.{ℕ, suc, ◌+◌, ◌-◌, ◌<◌, ◌≤◌, Bool, true, false, cond, ◌&&◌, List, ◌++◌, map, ◌≡◌, eqb, leb, length, drop}
+use Rattle.std.specs.Prelude.{ℕ, suc, ◌+◌, ◌-◌, ◌<◌, ◌≤◌, Bool, true, false, cond, ◌&&◌, List, ◌++◌, map, ◌≡◌, eqb, leb, length, drop, Result, Ok, Err}
 use Rattle.words.specs.Host.{host_max}
 use Rattle.words.specs.Limits.{class_rows}
+use Rattle.words.specs.declared.refusal.Refusal.{Refusal}
+use Rattle.words.specs.declared.refusal.Refusal.TheVariants.{BookWord}
 use Rattle.classes.specs.declared.Shape.{Shape}
 use Rattle.classes.specs.way.Sound.{Sound}
 use Rattle.fields.specs.Field.{arena, class, page, frontier, partial, empty, owner, free, carved, next, prev, words, get}
@@ -15,8 +17,7 @@ use Rattle.pages.specs.Links.{top, unpark_run}
 use Rattle.pages.specs.declared.Park.{Park}
 use Rattle.pages.specs.declared.Park.TheVariants.{Empty, Cold}
 use Rattle.pages.specs.way.Pre.{RowPre, UnparkRunPre, DrawPre}
-use Rattle.take.specs.declared.take_plan.Plan.{Plan}
-use Rattle.take.specs.declared.take_plan.Plan.TheVariants.{Refused, Fill}
+use Rattle.take.specs.declared.call.Taken.{Taken}
 use Rattle.calls.specs.Take.{sound, walk, Filled, unlist_spent, fill_from}
 
 pub record TakePre (n : ℕ) (b : List ℕ) (c : ℕ) (sh : Shape) : Type 0 where
@@ -36,10 +37,10 @@ pub record SupplyPre (b : List ℕ) (sh : Shape) (q : ℕ) : Type 0 where
   pub carved : get b (page carved q) ≤ sh.capacity
   pub few : sh.capacity ≤ page_slots
 
-unfoldable pub share : ℕ → List ℕ → ℕ → Shape → ℕ → ℕ → ℕ → ℕ
+unfoldable pub share : ℕ → List ℕ → ℕ → Shape → ℕ → ℕ → ℕ → Result ℕ Refusal
 share n b c sh m code y =
     let q = code - 1 in
-    cond (leb code (get b (arena frontier)) && (eqb (get b (page prev q)) y && sound n b c sh 1 m q)) (length (latest b sh q m)) 0
+    cond (leb code (get b (arena frontier)) && (eqb (get b (page prev q)) y && sound n b c sh 1 m q)) (Ok (length (latest b sh q m))) (Err BookWord)
 
 -- the walk and the fill of a whole take
 abbrev pub walks_from : ℕ → List ℕ → ℕ → Shape → Bool
@@ -48,8 +49,8 @@ walks_from n b c sh = walk n b c sh sh.batch sh.batch (get b (class partial c)) 
 abbrev pub fills : List ℕ → ℕ → Shape → Filled
 fills b c sh = fill_from b c sh sh.batch sh.batch
 
-abbrev pub Foretold : Plan → Bool → Filled → Type 0
-Foretold p ok f = p ≡ cond ok (Fill (length f.blocks) f.virgin) (Refused 13)
+abbrev pub Foretold : Result Taken Refusal → Bool → Filled → Type 0
+Foretold p ok f = p ≡ cond ok (Ok (record { count = length f.blocks; virgin = f.virgin })) (Err BookWord)
 
 -- ---- a store: the class has no partial page, and the store has one
 pub record ParkedPre (n : ℕ) (b : List ℕ) (c : ℕ) (sh : Shape) (k : Park) : Type 0 where

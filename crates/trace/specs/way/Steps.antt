@@ -1,12 +1,20 @@
 -- What the code of one word ensures: the lent slices and the tally stand for a `Going`, and it goes on as `does` says or stops as `stops` says.
-use Rattle.std.specs.Prelude.{ℕ, ◌≤◌, true, false, List, ◌≡◌, length, drop}
+use Rattle.std.specs.Prelude.{ℕ, ◌≤◌, true, false, List, ◌≡◌, length, drop, Option, Some, None}
 use Rattle.std.proofs.Math.ListN as ListN
-use Rattle.trace.specs.declared.steps.Tally.{Tally}
-use Rattle.trace.specs.declared.steps.Step.{Step}
-use Rattle.trace.specs.declared.steps.Step.TheVariants.{Stops, Goes}
+use Rattle.trace.specs.declared.tally.Tally.{Tally}
+use Rattle.trace.specs.declared.say.Say as Code
+use Rattle.trace.specs.declared.say.Say.TheVariants.{Take, Back, Report}
+use Rattle.trace.specs.Trace as Trace
 use Rattle.trace.specs.Trace.{Say, report}
 use Rattle.trace.specs.Words.{Going, room_of, does, stops_as}
 use Rattle.trace.specs.way.Pre.{BookPre}
+
+-- what the code's own value says
+abbrev pub said : Option Code.Say → Say
+said (Some (Take c)) = Trace.take c
+said (Some (Back p)) = Trace.back p
+said (Some Report) = report
+said None = Trace.wrong
 
 -- the book and both lists as they are at a moment
 pub record Lent : Type 0 where
@@ -46,14 +54,15 @@ pub record Went (n : ℕ) (s : Say) (x : Lent) (t : Tally) (y : Lent) (t' : Tall
   pub fewer : t.out ≤ t.at → t'.out ≤ t'.at
   pub written : t.written ≤ length x.figures → t'.written ≤ length y.figures
 
-abbrev pub Carried : Step → ℕ → Say → Lent → Tally → Lent → Type 0
-Carried Stops n s x t y = Stopped n s x t y
-Carried (Goes t') n s x t y = Went n s x t y t'
+-- the tally afterwards, or none where the word stops the trace
+abbrev pub Carried : Option Tally → ℕ → Say → Lent → Tally → Lent → Type 0
+Carried None n s x t y = Stopped n s x t y
+Carried (Some t') n s x t y = Went n s x t y t'
 
 -- a take or a release leaves the figures, whatever they are
-abbrev pub CarriedBlocks : Step → ℕ → Say → List ℕ → List ℕ → Tally → List ℕ → List ℕ → Type 0
+abbrev pub CarriedBlocks : Option Tally → ℕ → Say → List ℕ → List ℕ → Tally → List ℕ → List ℕ → Type 0
 CarriedBlocks r n s b bl t b' bl' = (fl : List ℕ) → Carried r n s (lent b bl fl) t (lent b' bl' fl)
 
 -- a report leaves the book and the blocks
-abbrev pub CarriedReport : Step → ℕ → List ℕ → List ℕ → Tally → List ℕ → Type 0
+abbrev pub CarriedReport : Option Tally → ℕ → List ℕ → List ℕ → Tally → List ℕ → Type 0
 CarriedReport r n b fl t fl' = (bl : List ℕ) → Carried r n report (lent b bl fl) t (lent b bl fl')

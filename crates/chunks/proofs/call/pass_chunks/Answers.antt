@@ -5,19 +5,17 @@ use Rattle.chunks.proofs.call.pass_chunks.Goals as goal
 pub chunks_match-requires : goal.chunks_match-requires
 chunks_match-requires c = search match_pre
 
+pub returns-then-not-chunks_match : goal.returns-then-not-chunks_match
+returns-then-not-chunks_match c = search mismatch
+
 pub chunks_valid-requires : goal.chunks_valid-requires
 chunks_valid-requires c = search valid-next
 
+pub returns-then-not-chunks_valid : goal.returns-then-not-chunks_valid
+returns-then-not-chunks_valid c = search invalid
+
 pub take_blocks-requires : goal.take_blocks-requires
-take_blocks-requires c =
-    clear_next _ _ _ _ _ _ c.requires _ _ c.chunks_match.ensures c.if-chunks_match.true _ c.chunks_valid.ensures c.if-chunks_valid.true
-
-pub returns-then-chunks_valid : goal.returns-then-chunks_valid
-returns-then-chunks_valid c =
-    taken _ _ _ _ _ _ c.requires _ _ c.chunks_match.ensures c.if-chunks_match.true _ c.chunks_valid.ensures c.if-chunks_valid.true _ c.take_blocks.ensures
-
-pub returns-then-chunks_match : goal.returns-then-chunks_match
-returns-then-chunks_match c = search invalid
+take_blocks-requires c = search clear_next
 
 pub returns : goal.returns
-returns c = search mismatch
+returns c = search taken

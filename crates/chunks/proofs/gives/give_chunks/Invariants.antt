@@ -1,9 +1,5 @@
-use Rattle.facts.proofs.Prelude.{◌-◌, length}
 use Rattle.chunks.proofs.GiveLaws.{Giving}
 use Rattle.chunks.proofs.gives.give_chunks.Given as goal
 
-abbrev pub invariant-loop-i : goal.invariant-loop-i
-invariant-loop-i l = Giving l.n l.initial.meta l.shape l.chunks l.fates l.meta l.i
-
-abbrev pub decreases-loop-i : goal.decreases-loop-i
-decreases-loop-i l = length l.chunks - l.i
+abbrev pub invariant-loop-chunk : goal.invariant-loop-chunk
+invariant-loop-chunk l = Giving l.n l.initial.meta l.shape l.chunks l.fates l.meta l.chunk-iterator.a.rest.now l.chunk-iterator.b.rest.now

@@ -10,5 +10,5 @@ no_marks-requires c = search marks-there
 pub returns-then-whole : goal.returns-then-whole
 returns-then-whole c = search clean-told
 
-pub returns : goal.returns
-returns c = search not-run
+pub returns-else-whole : goal.returns-else-whole
+returns-else-whole c = search not-run

@@ -1,19 +1,16 @@
-use Rattle.facts.proofs.Prelude.{rules}
-use Rattle.release.proofs.EverySteps.{every-starts, every-goes_on, every-stops, every-ends}
-use Rattle.chunks.proofs.MarkSteps.{chunk_in}
+use Rattle.std.proofs.Common.{◌∙◌, rules, tests}
+use Rattle.std.proofs.lemmas.Iterator.{YieldsList-from_slice}
+use Rattle.std.proofs.lemmas.Iterator.Adapters.{serves_from_places}
+use Rattle.std.proofs.lemmas.Iterator.Search.{all_from_yields_List}
+use Rattle.chunks.specs.way.Marks.{page_clean}
+use Rattle.chunks.specs.way.Match.{is_page}
+use Rattle.chunks.proofs.Chains.{all-every, every-item}
 use Rattle.chunks.proofs.marks.pages_clean.Goals as goal
 
-pub loop-i-init : goal.loop-i-init
-loop-i-init c = search every-starts
-
-pub page_clean-requires : goal.page_clean-requires
-page_clean-requires c = record { clean_pre = search rules; chunk_value = search chunk_in }
-
-pub loop-i-preserved : goal.loop-i-preserved
-loop-i-preserved c = search every-goes_on
-
-pub returns-else-page_clean : goal.returns-else-page_clean
-returns-else-page_clean c = search every-stops
+pub all-requires-clause-callable : goal.all-requires-clause-callable
+all-requires-clause-callable c = serves_from_places (YieldsList-from_slice c.args.chunks.now cc) (λ x q k. search (rules, tests)) (λ x k l e. let z = every-item (is_page c.args.n) c.args.chunks.now k x.now c.requires.chunks_value l e in λ _ _ _ _ _ _ _ _ _ _ _ _. (c.requires.clean_pre, z))
 
 pub returns : goal.returns
-returns c = search every-ends
+returns c =
+    let t = page_clean c.args.n c.args.meta.now c.args.c c.args.shape c.args.m in
+    all_from_yields_List (page_clean c.args.n c.args.meta.now c.args.c c.args.shape c.args.m) _ _ _ c.all.ensures.ran (YieldsList-from_slice c.args.chunks.now cc) (λ x b q k. search (rules, tests)) ∙ all-every t c.args.chunks.now

@@ -1,8 +1,8 @@
 use Rattle.chunks.proofs.MarkSteps.{sweep-starts, sweep-fits, sweep-pre, sweep-goes_on, sweep-ends}
 use Rattle.chunks.proofs.marks.take_pages.Goals as goal
 
-pub loop-i-init : goal.loop-i-init
-loop-i-init c = search sweep-starts
+pub loop-chunk-init : goal.loop-chunk-init
+loop-chunk-init c = search sweep-starts
 
 pub chunk_page-requires : goal.chunk_page-requires
 chunk_page-requires c = search sweep-fits
@@ -10,8 +10,8 @@ chunk_page-requires c = search sweep-fits
 pub take_marks-requires : goal.take_marks-requires
 take_marks-requires c = search sweep-pre
 
-pub loop-i-preserved : goal.loop-i-preserved
-loop-i-preserved c = search sweep-goes_on
+pub loop-chunk-preserved : goal.loop-chunk-preserved
+loop-chunk-preserved c = search sweep-goes_on
 
 pub returns : goal.returns
 returns c = search sweep-ends

@@ -1,14 +1,9 @@
-use Rattle.chunks.proofs.NameSteps.{pages-starts, pages-goes_on, pages-stops, pages-ends}
+use Rattle.std.proofs.Common.{◌∙◌, rules, tests}
+use Rattle.std.proofs.lemmas.Iterator.{YieldsList-from_slice}
+use Rattle.std.proofs.lemmas.Iterator.Search.{all_from_yields_List}
+use Rattle.chunks.specs.way.Match.{is_page}
+use Rattle.chunks.proofs.Chains.{all-every}
 use Rattle.chunks.proofs.naming.all_pages.Goals as goal
 
-pub loop-i-init : goal.loop-i-init
-loop-i-init c = search pages-starts
-
-pub loop-i-preserved : goal.loop-i-preserved
-loop-i-preserved c = search pages-goes_on
-
-pub returns-else-is_page : goal.returns-else-is_page
-returns-else-is_page c = search pages-stops
-
 pub returns : goal.returns
-returns c = search pages-ends
+returns c = all_from_yields_List (is_page c.args.n) _ _ _ c.all.ensures.ran (YieldsList-from_slice c.args.chunks.now cc) (λ x b q k. search (rules, tests)) ∙ all-every (is_page c.args.n) c.args.chunks.now

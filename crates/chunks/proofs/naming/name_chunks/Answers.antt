@@ -7,11 +7,11 @@ loop-i-init c = search name-starts
 pub chunk_page-p-requires : goal.chunk_page-p-requires
 chunk_page-p-requires c = search page-fits
 
-pub tally-requires : goal.tally-requires
-tally-requires c = search tally-there
+pub get-requires : goal.get-requires
+get-requires c = search tally-there
 
-pub set_tally-requires : goal.set_tally-requires
-set_tally-requires c = search tally-there
+pub set-requires : goal.set-requires
+set-requires c = search tally-there
 
 pub loop-i-preserved : goal.loop-i-preserved
 loop-i-preserved c = search name-goes_on

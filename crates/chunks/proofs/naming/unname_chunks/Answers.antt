@@ -1,4 +1,3 @@
-use Rattle.facts.proofs.Prelude.{◌<◌, arith}
 use Rattle.chunks.proofs.NameSteps.{last_fits, tally-last, unname_starts, unname_goes_on, unname_ends}
 use Rattle.chunks.proofs.naming.unname_chunks.Goals as goal
 
@@ -6,19 +5,13 @@ pub loop-i-init : goal.loop-i-init
 loop-i-init c = search unname_starts
 
 pub chunk_page-requires : goal.chunk_page-requires
-chunk_page-requires c =
-    let some : 0 < c.loop-i.i = omega arith in
-    search last_fits
+chunk_page-requires c = search last_fits
 
-pub set_tally-requires : goal.set_tally-requires
-set_tally-requires c =
-    let some : 0 < c.loop-i.i = omega arith in
-    search tally-last
+pub set-requires : goal.set-requires
+set-requires c = search tally-last
 
 pub loop-i-preserved : goal.loop-i-preserved
-loop-i-preserved c =
-    let some : 0 < c.loop-i.i = omega arith in
-    search unname_goes_on
+loop-i-preserved c = search unname_goes_on
 
 pub returns : goal.returns
 returns c = search unname_ends

@@ -11,8 +11,8 @@ overflow_cast-list c = search size_fits
 pub overflow_add-top : goal.overflow_add-top
 overflow_add-top c = search free-fits
 
-pub set_free-requires : goal.set_free-requires
-set_free-requires c = search free-there
+pub set-requires : goal.set-requires
+set-requires c = search free-there
 
 pub returns : goal.returns
 returns c = search tail-done

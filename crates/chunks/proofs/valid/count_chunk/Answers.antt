@@ -1,8 +1,8 @@
 use Rattle.chunks.proofs.ValidSteps.{with_destination-pre, count-one, count_none}
 use Rattle.chunks.proofs.valid.count_chunk.Goals as goal
 
-pub count_destination-requires : goal.count_destination-requires
-count_destination-requires c = search with_destination-pre
+pub with-requires : goal.with-requires
+with-requires c = search with_destination-pre
 
 pub returns-then-returns_all : goal.returns-then-returns_all
 returns-then-returns_all c = search count-one

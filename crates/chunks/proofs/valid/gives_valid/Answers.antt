@@ -10,5 +10,5 @@ overflow_mul-given c = search given-fits
 pub returns-then-given-eq0 : goal.returns-then-given-eq0
 returns-then-given-eq0 c = search none-given
 
-pub returns : goal.returns
-returns c = search some-given
+pub returns-else-given-eq0 : goal.returns-else-given-eq0
+returns-else-given-eq0 c = search some-given

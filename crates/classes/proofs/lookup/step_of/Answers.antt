@@ -5,5 +5,5 @@ use Rattle.classes.proofs.lookup.step_of.Goals as goal
 pub returns-then-size-le4096 : goal.returns-then-size-le4096
 returns-then-size-le4096 c = step_of_32 _ _ (omega arith) (omega arith)
 
-pub returns : goal.returns
-returns c = step_of_512 _ _ (omega arith) (omega arith)
+pub returns-else-size-le4096 : goal.returns-else-size-le4096
+returns-else-size-le4096 c = step_of_512 _ _ (omega arith) (omega arith)

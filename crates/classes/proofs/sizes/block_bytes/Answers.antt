@@ -6,4 +6,4 @@ use Rattle.classes.proofs.sizes.block_bytes.Goals as goal
 -- The constant arrays are the tables of `specs/`.
 pub returns : goal.returns
 unfolding small_sizes medium_sizes
-returns c = c.wide.ensures ∙ c.entry.ensures ∙ entry-bytes _
+returns c = c.from.ensures ∙ c.entry.ensures ∙ entry-bytes _

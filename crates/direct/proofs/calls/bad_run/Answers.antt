@@ -1,8 +1,10 @@
-use Rattle.direct.proofs.CallSteps.{bad-none, bad-long}
+use Rattle.model.specs.Heap.{bad_run}
+use Rattle.direct.proofs.CallSteps.{bad-long}
 use Rattle.direct.proofs.calls.bad_run.Goals as goal
 
 pub returns-then-pages-eq0 : goal.returns-then-pages-eq0
-returns-then-pages-eq0 c = search bad-none
+unfolding bad_run
+returns-then-pages-eq0 c = rw c.if-pages-eq0.true
 
-pub returns : goal.returns
-returns c = search bad-long
+pub returns-else-pages-eq0 : goal.returns-else-pages-eq0
+returns-else-pages-eq0 c = search bad-long

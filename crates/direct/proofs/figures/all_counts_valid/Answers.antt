@@ -1,14 +1,13 @@
-use Rattle.direct.proofs.FigureSteps.{counts_start, counts-again, counts_fail, counts-pass}
+use Rattle.facts.proofs.Prelude.{rules, refl, ◌∙◌}
+use borrow.Author.Tests.{tests}
+use Rattle.std.proofs.lemmas.Iterator.{YieldsList-from_range}
+use Rattle.std.proofs.lemmas.Iterator.Search.{all_from_yields_List}
+use Rattle.words.specs.Limits.{class_rows}
+use Rattle.arena.specs.Valid.{counts_valid}
+use Rattle.direct.proofs.FigureSteps.{all-counts}
 use Rattle.direct.proofs.figures.all_counts_valid.Goals as goal
 
-pub loop-c-init : goal.loop-c-init
-loop-c-init c = search counts_start
-
-pub returns-then-not-counts_valid : goal.returns-then-not-counts_valid
-returns-then-not-counts_valid c = search counts_fail
-
-pub loop-c-preserved : goal.loop-c-preserved
-loop-c-preserved c = search counts-again
-
 pub returns : goal.returns
-returns c = search counts-pass
+returns c =
+    all_from_yields_List (counts_valid c.args.meta.now) _ _ _ c.all.ensures.ran (YieldsList-from_range 0 class_rows class_rows (cc) refl) (λ x b q k. search (rules, tests))
+    ∙ all-counts c.args.meta.now

@@ -1,11 +1,11 @@
 use Rattle.direct.proofs.FigureSteps.{counts_in, figures-below, figures-are}
 use Rattle.direct.proofs.figures.figures.Goals as goal
 
-pub parked_pages-parked-requires : goal.parked_pages-parked-requires
-parked_pages-parked-requires c = search counts_in
+pub parked_pages-requires : goal.parked_pages-requires
+parked_pages-requires c = search counts_in
 
-pub overflow_sub-result : goal.overflow_sub-result
-overflow_sub-result c = search figures-below
+pub overflow_sub-size : goal.overflow_sub-size
+overflow_sub-size c = search figures-below
 
 pub returns : goal.returns
-returns c = search figures-are
+returns c = rw (c.from.ensures, c.from-2.ensures, c.from-3.ensures, c.from-parked.ensures) (search figures-are)

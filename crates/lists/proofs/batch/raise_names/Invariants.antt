@@ -1,9 +1,5 @@
-use Rattle.facts.proofs.Prelude.{◌-◌}
 use Rattle.lists.proofs.BatchSteps.{Raising}
 use Rattle.lists.proofs.batch.raise_names.Given as goal
 
 abbrev pub invariant-loop-j : goal.invariant-loop-j
 invariant-loop-j l = Raising l.shape l.q l.initial.list l.at l.from l.k l.list l.j
-
-abbrev pub decreases-loop-j : goal.decreases-loop-j
-decreases-loop-j l = l.k - l.j

@@ -1,8 +1,8 @@
 use Rattle.lists.proofs.BlockSteps.{more-free, more-fresh}
 use Rattle.lists.proofs.blocks.has_more.Goals as goal
 
-pub returns-then-free-ne0 : goal.returns-then-free-ne0
-returns-then-free-ne0 c = search more-free
+pub returns-then-get-ne0 : goal.returns-then-get-ne0
+returns-then-get-ne0 c = search more-free
 
-pub returns : goal.returns
-returns c = search more-fresh
+pub returns-else-get-ne0 : goal.returns-else-get-ne0
+returns-else-get-ne0 c = search more-fresh

@@ -6,5 +6,5 @@ give_blocks-requires c = search draw-pre
 
 pub returns : goal.returns
 returns c =
-    draw-done _ _ _ _ _ _ _ _ _ _ c.free-free.ensures c.carved-carved.ensures c.min-popped.ensures c.min-fresh.ensures _ _ _ _ c.requires
-    c.give_blocks.ensures c.set_free.ensures c.set_carved.ensures
+    draw-done _ _ _ _ _ _ _ _ _ _ c.get-free.ensures c.get-carved.ensures c.min-popped.ensures c.min-fresh.ensures _ _ _ _ c.requires
+    c.give_blocks.ensures c.set.ensures c.set-2.ensures

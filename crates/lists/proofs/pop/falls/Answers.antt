@@ -1,11 +1,11 @@
-use Rattle.lists.proofs.StretchSteps.{falling_none, falling_more, falling_done}
+use Rattle.lists.proofs.StretchSteps.{falling-start, falling-turn, falling-end}
 use Rattle.lists.proofs.pop.falls.Goals as goal
 
-pub loop-z-init : goal.loop-z-init
-loop-z-init c = search falling_none
+pub loop-j-init : goal.loop-j-init
+loop-j-init c = search falling-start
 
-pub loop-z-preserved : goal.loop-z-preserved
-loop-z-preserved c = search falling_more
+pub loop-j-preserved : goal.loop-j-preserved
+loop-j-preserved c = search falling-turn
 
 pub returns : goal.returns
-returns c = search falling_done
+returns c = search falling-end

@@ -1,11 +1,11 @@
-use Rattle.lists.proofs.StretchSteps.{rising_none, rising-more, rising-done}
+use Rattle.lists.proofs.StretchSteps.{rising-start, rising-turn, rising-end}
 use Rattle.lists.proofs.pop.rises.Goals as goal
 
-pub loop-z-init : goal.loop-z-init
-loop-z-init c = search rising_none
+pub loop-j-init : goal.loop-j-init
+loop-j-init c = search rising-start
 
-pub loop-z-preserved : goal.loop-z-preserved
-loop-z-preserved c = search rising-more
+pub loop-j-preserved : goal.loop-j-preserved
+loop-j-preserved c = search rising-turn
 
 pub returns : goal.returns
-returns c = search rising-done
+returns c = search rising-end

@@ -8,4 +8,4 @@ push_entries-requires c = record { push_entries_pre = search rules; list_value =
 pub returns : goal.returns
 returns c =
     let a = c.args in
-    push-done _ a.shape _ _ a.list.now _ _ _ c.free-top.ensures c.push_entries.ensures c.set_virgin.ensures c.set_free.ensures
+    push-done _ a.shape _ _ a.list.now _ _ _ c.get-top.ensures c.push_entries.ensures c.set.ensures c.set-2.ensures

@@ -1,14 +1,12 @@
-use Rattle.lists.proofs.RunSteps.{whole-beyond, whole-over, whole_above, whole-done}
+use Rattle.facts.proofs.Prelude.{arith}
+use Rattle.std.proofs.lemmas.Grind.{common_steps}
+use Rattle.pages.specs.Runs.{whole}
 use Rattle.lists.proofs.runs.whole.Goals as goal
 
-pub returns-then-q-n : goal.returns-then-q-n
-returns-then-q-n c = search whole-beyond
-
-pub returns-then-shape-n : goal.returns-then-shape-n
-returns-then-shape-n c = search whole-over
-
 pub returns-then-q-shape : goal.returns-then-q-shape
-returns-then-q-shape c = search whole_above
+unfolding whole
+returns-then-q-shape c = grind (arith, common_steps)
 
-pub returns : goal.returns
-returns c = search whole-done
+pub returns-else-q-shape : goal.returns-else-q-shape
+unfolding whole
+returns-else-q-shape c = grind (arith, common_steps)

@@ -1,14 +1,12 @@
-use Rattle.lists.proofs.ValidSteps.{over_capacity, over-carved, too_many, header_told}
+use Rattle.facts.proofs.Prelude.{arith}
+use Rattle.std.proofs.lemmas.Grind.{common_steps}
+use Rattle.pages.specs.Valid.{header_valid}
 use Rattle.lists.proofs.valid.header_valid.Goals as goal
 
-pub returns-then-carved-shape : goal.returns-then-carved-shape
-returns-then-carved-shape c = search over_capacity
-
-pub returns-then-free-carved : goal.returns-then-free-carved
-returns-then-free-carved c = search over-carved
-
 pub returns-then-m-carved : goal.returns-then-m-carved
-returns-then-m-carved c = search too_many
+unfolding header_valid
+returns-then-m-carved c = grind (arith, common_steps)
 
-pub returns : goal.returns
-returns c = search header_told
+pub returns-else-m-carved : goal.returns-else-m-carved
+unfolding header_valid
+returns-else-m-carved c = grind (arith, common_steps)

@@ -1,20 +1,19 @@
-use Rattle.plan.proofs.FaultSteps.{bad_nil, bad-lengths, bad-long, bad-class, bad-takes, good}
+use Rattle.facts.proofs.Prelude.{◌∙◌, sym, true≢false}
+use Rattle.plan.proofs.FaultSteps.{bad_by_lengths, bad_by_sizes, bad_by_takes}
 use Rattle.plan.proofs.faults.bad_plan.Goals as goal
+use Rattle.plan.proofs.faults.bad_plan.Goals.{then-bad_lengths, else-bad_lengths}
 
-pub returns-then-sizes-eq0 : goal.returns-then-sizes-eq0
-returns-then-sizes-eq0 c = search bad_nil
+pub returns-then-not-all_within : goal.returns-then-not-all_within
+returns-then-not-all_within c =
+    elim c.if-bad_lengths.branch [
+      | then-bad_lengths w ↦ bad_by_lengths _ _ _ _ c.bad_lengths.ensures w.if-bad_lengths.true w.value-is
+      | else-bad_lengths w ↦ bad_by_sizes _ _ _ _ c.bad_lengths.ensures _ w.all_within.ensures w.if-bad_lengths.false w.value-is c.if-not-all_within.true
+    ]
 
-pub returns-then-sizes-takes : goal.returns-then-sizes-takes
-returns-then-sizes-takes c = search bad-lengths
-
-pub returns-then-sizes-gt-ENTRIES_MAX : goal.returns-then-sizes-gt-ENTRIES_MAX
-returns-then-sizes-gt-ENTRIES_MAX c = search bad-long
-
-pub returns-then-all_within-2 : goal.returns-then-all_within-2
-returns-then-all_within-2 c = search good
-
-pub returns-else-all_within-2 : goal.returns-else-all_within-2
-returns-else-all_within-2 c = search bad-takes
-
-pub returns-else-all_within : goal.returns-else-all_within
-returns-else-all_within c = search bad-class
+pub returns-else-not-all_within : goal.returns-else-not-all_within
+returns-else-not-all_within c =
+    elim c.if-bad_lengths.branch [
+      | then-bad_lengths w ↦ absurd (true≢false (sym w.if-bad_lengths.true ∙ sym w.value-is ∙ c.if-not-all_within.false))
+      | else-bad_lengths w ↦
+          bad_by_takes _ _ _ _ c.bad_lengths.ensures _ w.all_within.ensures w.if-bad_lengths.false w.value-is _ c.all_within-else-not-all_within.ensures c.if-not-all_within.false
+    ]

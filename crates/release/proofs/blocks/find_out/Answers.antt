@@ -1,21 +1,20 @@
 use Rattle.release.proofs.OutSteps.{find-no_run, run-low, find-no_block, find-bit, find-not_out, find-is_out}
-use Rattle.std.proofs.Common.{rules}
 use Rattle.release.proofs.blocks.find_out.Goals as goal
 
-pub returns-in_default : goal.returns-in_default
-returns-in_default c = search find-no_run
+pub returns-in_err-run : goal.returns-in_err-run
+returns-in_err-run c = rw c.from_residual.ensures (search (find-no_run, c.in_err-run.ensures))
 
-pub block_at-block-requires : goal.block_at-block-requires
-block_at-block-requires c = record { sound = search rules; q_lt_max_pages = search run-low }
+pub block_at-requires-clause-q_lt_max_pages : goal.block_at-requires-clause-q_lt_max_pages
+block_at-requires-clause-q_lt_max_pages c = search (run-low, c.in_ok-run.ensures)
 
-pub returns-in_default-block : goal.returns-in_default-block
-returns-in_default-block c = search find-no_block
+pub returns-in_err-index : goal.returns-in_err-index
+returns-in_err-index c = rw c.from_residual-in_err-index.ensures (search (find-no_block, c.in_ok-run.ensures, c.in_err-index.ensures))
 
 pub bit-requires : goal.bit-requires
-bit-requires c = search find-bit
+bit-requires c = search (find-bit, c.in_ok-run.ensures, c.in_ok-index.ensures)
 
 pub returns-then-bit-ne1 : goal.returns-then-bit-ne1
-returns-then-bit-ne1 c = search find-not_out
+returns-then-bit-ne1 c = search (find-not_out, c.in_ok-run.ensures, c.in_ok-index.ensures)
 
 pub returns : goal.returns
-returns c = search find-is_out
+returns c = search (find-is_out, c.in_ok-run.ensures, c.in_ok-index.ensures)

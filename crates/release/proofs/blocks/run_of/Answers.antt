@@ -4,8 +4,8 @@ use Rattle.release.proofs.blocks.run_of.Goals as goal
 pub returns-then-page-n : goal.returns-then-page-n
 returns-then-page-n c = search past-arena
 
-pub returns-then-p-frontier : goal.returns-then-p-frontier
-returns-then-p-frontier c = search past-frontier
+pub returns-then-p-get : goal.returns-then-p-get
+returns-then-p-get c = search past-frontier
 
 pub returns-then-q-p : goal.returns-then-q-p
 returns-then-q-p c = search past-page

@@ -8,8 +8,8 @@ push_list-requires c = record { push_pre = search push-pre; list_value = search 
 pub park_empty_page-requires : goal.park_empty_page-requires
 park_empty_page-requires c = search park-pre
 
-pub returns-then-carved-free : goal.returns-then-carved-free
-returns-then-carved-free c = search none_out_lem
+pub returns-then-get : goal.returns-then-get
+returns-then-get c = search none_out_lem
 
 pub relist-requires : goal.relist-requires
 relist-requires c = search link-pre

@@ -1,8 +1,8 @@
 use Rattle.release.proofs.ParkSteps.{headed, in_list}
 use Rattle.release.proofs.park.relist.Goals as goal
 
-pub returns-then-listed-eq0 : goal.returns-then-listed-eq0
-returns-then-listed-eq0 c = search headed
+pub returns-then-get-eq0 : goal.returns-then-get-eq0
+returns-then-get-eq0 c = search headed
 
-pub returns-else-listed-eq0 : goal.returns-else-listed-eq0
-returns-else-listed-eq0 c = search in_list
+pub returns-else-get-eq0 : goal.returns-else-get-eq0
+returns-else-get-eq0 c = search in_list

@@ -4,8 +4,8 @@ use Rattle.release.proofs.park.unlist.Goals as goal
 pub unlink_partial-requires : goal.unlink_partial-requires
 unlink_partial-requires c = search links-there
 
-pub returns-then-listed-eq1 : goal.returns-then-listed-eq1
-returns-then-listed-eq1 c = search left-list
+pub returns-then-get-eq1 : goal.returns-then-get-eq1
+returns-then-get-eq1 c = search left-list
 
-pub returns-else-listed-eq1 : goal.returns-else-listed-eq1
-returns-else-listed-eq1 c = search in_no_list
+pub returns-else-get-eq1 : goal.returns-else-get-eq1
+returns-else-get-eq1 c = search in_no_list

@@ -7,14 +7,14 @@ bounds-list-0 c = search some-listed
 pub page_within-requires : goal.page_within-requires
 page_within-requires c = search first_fits
 
-pub first-q-requires : goal.first-q-requires
-first-q-requires c = search first-pre
+pub get-q-requires : goal.get-q-requires
+get-q-requires c = search first-pre
 
 pub of_one_run-requires : goal.of_one_run-requires
 of_one_run-requires c = search start-pre
 
-pub returns-then-of_one_run : goal.returns-then-of_one_run
-returns-then-of_one_run c = search this_run
+pub returns-then-not-of_one_run : goal.returns-then-not-of_one_run
+returns-then-not-of_one_run c = search other-run
 
 pub returns : goal.returns
-returns c = search other-run
+returns c = search this_run

@@ -1,21 +1,12 @@
-use Rattle.release.proofs.OutSteps.{clean-over, clean-goes_on, clean-stops, clean-ends, mark-has}
-use Rattle.release.proofs.EverySteps.{every-starts}
+use Rattle.facts.proofs.Prelude.{◌∙◌, sym, rules}
+use Rattle.std.proofs.Common.{tests}
+use Rattle.std.proofs.lemmas.Iterator.{YieldsList-from_slice}
+use Rattle.std.proofs.lemmas.Iterator.Search.{all_from_yields_List}
+use Rattle.release.specs.way.Marks.{clean_at}
+use Rattle.release.proofs.OutSteps.{clean_all}
 use Rattle.release.proofs.tests.list_clean.Goals as goal
 
-pub loop-i-init : goal.loop-i-init
-loop-i-init c = search every-starts
-
-pub loop-i-preserved-in_default : goal.loop-i-preserved-in_default
-loop-i-preserved-in_default c = search clean-over
-
-pub word-requires : goal.word-requires
-word-requires c = search mark-has
-
-pub returns-then-word-ne0 : goal.returns-then-word-ne0
-returns-then-word-ne0 c = search clean-stops
-
-pub loop-i-preserved : goal.loop-i-preserved
-loop-i-preserved c = search clean-goes_on
-
 pub returns : goal.returns
-returns c = search clean-ends
+returns c =
+    let a = c.args in
+    all_from_yields_List (clean_at a.n a.meta.now a.c a.shape) _ _ c.all.result c.all.ensures.ran (YieldsList-from_slice a.list.now cc) (λ x b q k. search (rules, tests)) ∙ sym (clean_all a.n a.meta.now a.c a.shape a.list.now)

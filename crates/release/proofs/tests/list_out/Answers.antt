@@ -1,15 +1,12 @@
-use Rattle.release.proofs.OutSteps.{outs-go_on, outs_stop}
-use Rattle.release.proofs.EverySteps.{every-starts, every-ends}
+use Rattle.facts.proofs.Prelude.{rules}
+use Rattle.std.proofs.Common.{tests}
+use Rattle.std.proofs.lemmas.Iterator.{YieldsList-from_slice}
+use Rattle.std.proofs.lemmas.Iterator.Search.{all_from_yields_List}
+use Rattle.calls.specs.Out.{out_at}
+use Rattle.release.proofs.OutSteps.{out-told}
 use Rattle.release.proofs.tests.list_out.Goals as goal
 
-pub loop-i-init : goal.loop-i-init
-loop-i-init c = search every-starts
-
-pub returns-in_default : goal.returns-in_default
-returns-in_default c = search outs_stop
-
-pub loop-i-preserved : goal.loop-i-preserved
-loop-i-preserved c = search outs-go_on
-
 pub returns : goal.returns
-returns c = search every-ends
+returns c =
+    let a = c.args in
+    all_from_yields_List (out_at a.n a.meta.now a.c a.shape) _ _ c.all.result c.all.ensures.ran (YieldsList-from_slice a.list.now cc) (λ x b q k. search (rules, tests, out-told))

@@ -1,11 +1,11 @@
-use Rattle.release.proofs.Testing.{class-marked, count-within, none-twice, some-twice}
+use Rattle.release.proofs.Testing.{class-marked, count-taken, twice-told}
 use Rattle.release.proofs.tests.list_repeats.Goals as goal
 
-pub clear_list-requires : goal.clear_list-requires
-clear_list-requires c = record { class_pre = search class-marked; count_in_bounds = search count-within }
+pub slice_bounds-clear_list-end : goal.slice_bounds-clear_list-end
+slice_bounds-clear_list-end c = search count-taken
 
-pub returns-then-count-list : goal.returns-then-count-list
-returns-then-count-list c = search none-twice
+pub clear_list-requires : goal.clear_list-requires
+clear_list-requires c = search class-marked
 
 pub returns : goal.returns
-returns c = search some-twice
+returns c = search twice-told

@@ -1,8 +1,8 @@
 use Rattle.release.proofs.ValidSteps.{far-partial, limits-last, no-cold, no-empty}
 use Rattle.release.proofs.valid.row_valid.Goals as goal
 
-pub returns-then-partial-frontier : goal.returns-then-partial-frontier
-returns-then-partial-frontier c = search far-partial
+pub returns-then-get : goal.returns-then-get
+returns-then-get c = search far-partial
 
 pub returns-then-store_valid-2 : goal.returns-then-store_valid-2
 returns-then-store_valid-2 c = search limits-last

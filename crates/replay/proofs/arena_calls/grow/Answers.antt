@@ -2,4 +2,6 @@ use Rattle.replay.proofs.Made.{grow-made}
 use Rattle.replay.proofs.arena_calls.grow.Goals as goal
 
 pub returns : goal.returns
-returns c = grow-made c.args.answers c.vigbuso_grow_frontier-code.ensures c.low-grown.ensures c.wide.ensures c.wide-2.ensures
+returns c =
+    let ends = rw c.word.ensures at c.vigbuso_grow_frontier-code.ensures in
+    grow-made c.args.answers.now ends c.low-grown.ensures c.from.ensures c.from-2.ensures

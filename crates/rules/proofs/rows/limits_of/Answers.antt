@@ -1,5 +1,7 @@
-use Rattle.rules.proofs.RowSteps.{limits-numbered}
+use Rattle.facts.proofs.Prelude.{rules}
+use Rattle.rules.specs.Rules.{rules_of}
 use Rattle.rules.proofs.rows.limits_of.Goals as goal
 
 pub returns : goal.returns
-returns c = search limits-numbered
+unfolding rules_of
+returns c = search rules

@@ -1,17 +1,16 @@
-use Rattle.rules.proofs.RowSteps.{none-given, none-start, none_stop, none-again, none_end}
+use Rattle.facts.proofs.Prelude.{rules, ◌∙◌, eqb, refl}
+use borrow.Author.Tests.{tests}
+use Rattle.std.proofs.lemmas.Iterator.{YieldsList-from_range}
+use Rattle.std.proofs.lemmas.Iterator.Search.{any_from_yields_List}
+use Rattle.classes.specs.Shape.{class_count}
+use Rattle.rules.specs.Rules.{rows_for}
+use Rattle.rules.proofs.RowSteps.{any-none, none-given}
 use Rattle.rules.proofs.rows.no_row.Goals as goal
 
-pub returns-then-rows-eq0 : goal.returns-then-rows-eq0
-returns-then-rows-eq0 c = search none-given
+pub returns-then-not-is_empty : goal.returns-then-not-is_empty
+returns-then-not-is_empty c =
+    any_from_yields_List (λ k. eqb (rows_for c.args.words.now k) 0) _ _ _ c.any.ensures.ran (YieldsList-from_range 0 class_count class_count (cc) refl) (λ x b q k. search (rules, tests))
+    ∙ any-none _ _ c.is_empty.ensures c.if-not-is_empty.true
 
-pub loop-c-init : goal.loop-c-init
-loop-c-init c = search none-start
-
-pub returns-then-rows_for-eq0 : goal.returns-then-rows_for-eq0
-returns-then-rows_for-eq0 c = search none_stop
-
-pub loop-c-preserved : goal.loop-c-preserved
-loop-c-preserved c = search none-again
-
-pub returns : goal.returns
-returns c = search none_end
+pub returns-else-not-is_empty : goal.returns-else-not-is_empty
+returns-else-not-is_empty c = rw c.if-not-is_empty.false (none-given _ _ c.is_empty.ensures c.if-not-is_empty.false)

@@ -1,14 +1,14 @@
-use Rattle.rules.proofs.RowSteps.{for_start, for_yes, for_no, for_end}
+use Rattle.facts.proofs.Prelude.{rules, ◌∙◌}
+use borrow.Author.Tests.{tests}
+use Rattle.std.proofs.lemmas.Iterator.{YieldsList-from_slice}
+use Rattle.std.proofs.lemmas.Iterator.Consumers.{YieldsList-from_filter, count_from_yields_List}
+use Rattle.rules.specs.Rules.{rows_for, spans}
+use Rattle.rules.specs.way.Rows.{row_of}
+use Rattle.rules.proofs.RowSteps.{count_rows}
 use Rattle.rules.proofs.rows.rows_for.Goals as goal
 
-pub loop-i-init : goal.loop-i-init
-loop-i-init c = search for_start
-
-pub loop-i-preserved-then-spans : goal.loop-i-preserved-then-spans
-loop-i-preserved-then-spans c = search for_yes
-
-pub loop-i-preserved : goal.loop-i-preserved
-loop-i-preserved c = search for_no
-
 pub returns : goal.returns
-returns c = search for_end
+unfolding rows_for
+returns c =
+    count_from_yields_List _ _ c.count.ensures.ran (YieldsList-from_filter _ (λ w. spans (row_of w) c.args.c) (YieldsList-from_slice c.whole_rows.result.now cc) c.filter.ensures.closure (λ x b q k. search (rules, tests)))
+    ∙ count_rows (λ r. spans r c.args.c) c.whole_rows.result.now ∙ rw c.whole_rows.ensures

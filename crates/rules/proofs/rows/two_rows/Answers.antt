@@ -1,14 +1,13 @@
-use Rattle.rules.proofs.RowSteps.{two-start, two_stop, two-again, two-end}
+use Rattle.facts.proofs.Prelude.{rules, ◌∙◌, ltb, refl}
+use borrow.Author.Tests.{tests}
+use Rattle.std.proofs.lemmas.Iterator.{YieldsList-from_range}
+use Rattle.std.proofs.lemmas.Iterator.Search.{any_from_yields_List}
+use Rattle.classes.specs.Shape.{class_count}
+use Rattle.rules.specs.Rules.{rows_for}
+use Rattle.rules.proofs.RowSteps.{any-two}
 use Rattle.rules.proofs.rows.two_rows.Goals as goal
 
-pub loop-c-init : goal.loop-c-init
-loop-c-init c = search two-start
-
-pub returns-then-rows_for-gt1 : goal.returns-then-rows_for-gt1
-returns-then-rows_for-gt1 c = search two_stop
-
-pub loop-c-preserved : goal.loop-c-preserved
-loop-c-preserved c = search two-again
-
 pub returns : goal.returns
-returns c = search two-end
+returns c =
+    any_from_yields_List (λ k. ltb 1 (rows_for c.args.words.now k)) _ _ _ c.any.ensures.ran (YieldsList-from_range 0 class_count class_count (cc) refl) (λ x b q k. search (rules, tests))
+    ∙ any-two _

@@ -4,8 +4,8 @@ use Rattle.runs.proofs.growth.grow_gives.Goals as goal
 pub returns-then-commit_granted : goal.returns-then-commit_granted
 returns-then-commit_granted c = search gives-granted
 
-pub returns-then-frontier-end : goal.returns-then-frontier-end
-returns-then-frontier-end c = search gives-elsewhere
+pub returns-then-get-end : goal.returns-then-get-end
+returns-then-get-end c = search gives-elsewhere
 
 pub returns : goal.returns
 returns c = search gives-there

@@ -4,8 +4,8 @@ use Rattle.runs.proofs.owners.all_direct.Goals as goal
 pub loop-left-init : goal.loop-left-init
 loop-left-init c = search looks_start
 
-pub returns-then-owner-ne-DIRECT : goal.returns-then-owner-ne-DIRECT
-returns-then-owner-ne-DIRECT c = search looks_no
+pub returns-then-get-ne-DIRECT : goal.returns-then-get-ne-DIRECT
+returns-then-get-ne-DIRECT c = search looks_no
 
 pub loop-left-preserved : goal.loop-left-preserved
 loop-left-preserved c = search looks_again

@@ -7,8 +7,8 @@ returns-then-size-pages c = search direct-long
 pub returns-then-size-pages-2 : goal.returns-then-size-pages-2
 returns-then-size-pages-2 c = search direct-out
 
-pub returns-then-frontier-first : goal.returns-then-frontier-first
-returns-then-frontier-first c = search direct-above
+pub returns-then-get-first : goal.returns-then-get-first
+returns-then-get-first c = search direct-above
 
 pub returns : goal.returns
 returns c = search direct_is

@@ -1,11 +1,11 @@
-use Rattle.runs.proofs.RecordSteps.{owns-start, owns-again, owns-done}
+use Rattle.runs.proofs.RecordSteps.{own-start, own-again, own-done}
 use Rattle.runs.proofs.owners.own.Goals as goal
 
-pub loop-left-init : goal.loop-left-init
-loop-left-init c = search owns-start
+pub loop-p-init : goal.loop-p-init
+loop-p-init c = search own-start
 
-pub loop-left-preserved : goal.loop-left-preserved
-loop-left-preserved c = search owns-again
+pub loop-p-preserved : goal.loop-p-preserved
+loop-p-preserved c = search own-again
 
 pub returns : goal.returns
-returns c = search owns-done
+returns c = search own-done

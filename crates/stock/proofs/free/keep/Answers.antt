@@ -14,8 +14,8 @@ returns-then-not-made c = search keep_unmade
 pub push-requires : goal.push-requires
 push-requires c = search (rules, keep_low)
 
-pub returns-then-is_out : goal.returns-then-is_out
-returns-then-is_out c = search keep-pushed
+pub returns-then-not-is_out : goal.returns-then-not-is_out
+returns-then-not-is_out c = search keep_absent
 
 pub returns : goal.returns
-returns c = search keep_absent
+returns c = search keep-pushed

@@ -1,9 +1,5 @@
-use Rattle.facts.proofs.Prelude.{◌-◌}
 use Rattle.stock.proofs.PlaceSteps.{Putting}
 use Rattle.stock.proofs.places.put_all.Given as goal
 
 abbrev pub invariant-loop-k : goal.invariant-loop-k
-invariant-loop-k l = Putting l.n l.initial.meta l.c l.m l.list l.meta l.k
-
-abbrev pub decreases-loop-k : goal.decreases-loop-k
-decreases-loop-k l = l.m - l.k
+invariant-loop-k l = Putting l.n l.initial.meta l.c l.list l.meta l.k

@@ -7,5 +7,5 @@ returns-then-k-gt-COUNT_MAX c = search stock-invalid
 pub returns-then-format_valid : goal.returns-then-format_valid
 returns-then-format_valid c = search stock-counted
 
-pub returns : goal.returns
-returns c = search stock_unmade
+pub returns-else-format_valid : goal.returns-else-format_valid
+returns-else-format_valid c = search stock_unmade

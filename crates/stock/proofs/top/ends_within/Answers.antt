@@ -1,8 +1,5 @@
-use Rattle.stock.proofs.TopSteps.{ends-early, ends-told}
+use Rattle.stock.proofs.TopSteps.{ends-early}
 use Rattle.stock.proofs.top.ends_within.Goals as goal
 
-pub returns-then-g-end : goal.returns-then-g-end
-returns-then-g-end c = search ends-early
-
-pub returns : goal.returns
-returns c = search ends-told
+pub returns-then-start-end : goal.returns-then-start-end
+returns-then-start-end c = search ends-early

@@ -7,5 +7,5 @@ returns-then-k-gt-COUNT_MAX c = search top-over
 pub returns-then-ends_within : goal.returns-then-ends_within
 returns-then-ends_within c = search top_within
 
-pub returns : goal.returns
-returns c = search top-past
+pub returns-else-ends_within : goal.returns-else-ends_within
+returns-else-ends_within c = search top-past

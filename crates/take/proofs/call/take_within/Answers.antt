@@ -1,3 +1,4 @@
+use Rattle.std.proofs.lemmas.Result.{err_from_is_err_and}
 use Rattle.take.proofs.TakeSteps.{shape-pre, list-short, list-granted, list-refused, list-none, list-fills, list-took}
 use Rattle.take.proofs.call.take_within.Goals as goal
 
@@ -9,13 +10,17 @@ make_ready-requires c = record { source_pre = search shape-pre; granted = search
 
 pub fill_from_list-requires : goal.fill_from_list-requires
 fill_from_list-requires c =
-    list-fills _ _ _ _ _ _ _ _ c.make_ready.ensures _ _ c.in-Fill.is
+    list-fills _ _ _ _ _ _ _ _ (c.in_ok-make_ready.ensures) _ c.in-Some.is
 
-pub returns-in-Refused : goal.returns-in-Refused
-returns-in-Refused c = search list-refused
+pub returns-in_err-make_ready : goal.returns-in_err-make_ready
+returns-in_err-make_ready c =
+    let p = err_from_is_err_and c.from_residual.result c.from_residual.ensures.1 in
+    rw (p.1, p.2) (list-refused _ _ _ _ _ _ _ c.shape_of-shape.ensures c.if-whole-list.false _ _ (c.in_err-make_ready.ensures) _ _)
 
-pub returns-in-Nothing : goal.returns-in-Nothing
-returns-in-Nothing c = search list-none
+pub returns-in-None : goal.returns-in-None
+returns-in-None c =
+    list-none _ _ _ _ _ _ _ c.shape_of-shape.ensures c.if-whole-list.false _ _ (c.in_ok-make_ready.ensures) c.in-None.is _ _
 
-pub returns-in-Fill : goal.returns-in-Fill
-returns-in-Fill c = search list-took
+pub returns-in-Some : goal.returns-in-Some
+returns-in-Some c =
+    rw c.from.ensures (list-took _ _ _ _ _ _ _ c.shape_of-shape.ensures c.if-whole-list.false _ _ (c.in_ok-make_ready.ensures) _ _ _ _ _ c.in-Some.is c.fill_from_list.ensures)

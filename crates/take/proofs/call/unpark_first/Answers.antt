@@ -6,10 +6,10 @@ overflow_sub-q c = search first_some
 
 pub unpark_run-requires : goal.unpark_run-requires
 unpark_run-requires c =
-    first-unparks _ _ _ c.partial.ensures c.requires c.if-partial-eq0.true _ c.first_store-park.ensures _ c.store_top-q.ensures
+    first-unparks _ _ _ c.get.ensures c.requires c.if-get-eq0.true _ c.first_store-park.ensures _ c.store_top-q.ensures
 
-pub returns-then-partial-eq0 : goal.returns-then-partial-eq0
-returns-then-partial-eq0 c = search unparked-first
+pub returns-then-get-eq0 : goal.returns-then-get-eq0
+returns-then-get-eq0 c = search unparked-first
 
-pub returns-else-partial-eq0 : goal.returns-else-partial-eq0
-returns-else-partial-eq0 c = search listed-first
+pub returns-else-get-eq0 : goal.returns-else-get-eq0
+returns-else-get-eq0 c = search listed-first

@@ -1,11 +1,12 @@
-use Rattle.take.proofs.PlanSteps.{ready-invalid, ready-unlisted, ready-more}
+use Rattle.facts.proofs.Prelude.{arith}
+use Rattle.std.proofs.lemmas.Grind.{common_steps}
+use Rattle.calls.specs.Take.{page_ready}
 use Rattle.take.proofs.take_plan.page_ready.Goals as goal
 
-pub returns-then-not-header_valid : goal.returns-then-not-header_valid
-returns-then-not-header_valid c = search ready-invalid
+pub returns-then-get-l : goal.returns-then-get-l
+unfolding page_ready
+returns-then-get-l c = grind (arith, common_steps)
 
-pub returns-then-listed-l : goal.returns-then-listed-l
-returns-then-listed-l c = search ready-unlisted
-
-pub returns : goal.returns
-returns c = search ready-more
+pub returns-else-get-l : goal.returns-else-get-l
+unfolding page_ready
+returns-else-get-l c = grind (arith, common_steps)

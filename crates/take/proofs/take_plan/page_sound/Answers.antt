@@ -1,23 +1,30 @@
-use Rattle.take.proofs.PlanSteps.{sound_broken, sound_header, sound-top_entries, run-there, run-free, run-carved, header_top_entries}
+use Rattle.facts.proofs.Prelude.{arith, sym, ◌∙◌, false≢true}
+use Rattle.std.proofs.lemmas.Grind.{common_steps}
+use Rattle.calls.specs.Take.{sound}
+use Rattle.take.proofs.PlanSteps.{run-there, run-free, run-carved, header_top_entries}
 use Rattle.take.proofs.take_plan.page_sound.Goals as goal
-
-pub returns-then-not-whole : goal.returns-then-not-whole
-returns-then-not-whole c = search sound_broken
+use Rattle.take.proofs.take_plan.page_sound.Goals.{then-whole, else-whole}
 
 pub page_ready-requires : goal.page_ready-requires
 page_ready-requires c = search run-there
 
-pub returns-then-not-page_ready : goal.returns-then-not-page_ready
-returns-then-not-page_ready c = search sound_header
+pub get-requires : goal.get-requires
+get-requires c = search run-free
 
-pub free-free-requires : goal.free-free-requires
-free-free-requires c = search run-free
-
-pub carved-requires : goal.carved-requires
-carved-requires c = search run-carved
+pub get-requires-then-page_ready : goal.get-requires-then-page_ready
+get-requires-then-page_ready c = search run-carved
 
 pub top_entries_below-requires : goal.top_entries_below-requires
-top_entries_below-requires c = search header_top_entries
+top_entries_below-requires c =
+    elim c.if-whole.branch [
+      | then-whole w ↦ header_top_entries _ _ _ _ _ c.args.m _ _ _ _ c.requires c.whole.ensures w.if-whole.true w.page_ready.ensures (sym w.value-is ∙ c.if-page_ready.true) c.get.ensures
+      | else-whole w ↦ absurd (false≢true (sym w.if-whole.false ∙ sym w.value-is ∙ c.if-page_ready.true))
+    ]
 
-pub returns : goal.returns
-returns c = search sound-top_entries
+pub returns-then-page_ready : goal.returns-then-page_ready
+unfolding sound
+returns-then-page_ready c = grind (arith, common_steps)
+
+pub returns-else-page_ready : goal.returns-else-page_ready
+unfolding sound
+returns-else-page_ready c = grind (arith, common_steps)

@@ -4,11 +4,11 @@ use Rattle.take.proofs.take_plan.plan_parked.Goals as goal
 pub returns-then-not-park_valid : goal.returns-then-not-park_valid
 returns-then-not-park_valid c = search parked-fails
 
-pub supply-count-requires : goal.supply-count-requires
-supply-count-requires c = search plan-there
+pub supply-requires : goal.supply-requires
+supply-requires c = search plan-there
 
-pub virgin-requires : goal.virgin-requires
-virgin-requires c = search plan-virgin
+pub get-requires : goal.get-requires
+get-requires c = search plan-virgin
 
 pub returns : goal.returns
 returns c = search parked-done

@@ -7,8 +7,8 @@ returns-then-t-gt-BYTES_MAX c = search take-many
 pub with-requires : goal.with-requires
 with-requires c = search take_more
 
-pub returns-in-Refused : goal.returns-in-Refused
-returns-in-Refused c = search take-refused
+pub returns-in-Err : goal.returns-in-Err
+returns-in-Err c = search take-refused
 
-pub returns-in-Took : goal.returns-in-Took
-returns-in-Took c = search take-went
+pub returns-in-Ok : goal.returns-in-Ok
+returns-in-Ok c = search take-went

@@ -1,29 +1,14 @@
-use Rattle.facts.proofs.Prelude.{arith, ◌≡◌, refl, ◌∙◌, length-set}
-use Rattle.trace.proofs.ListWays.{restore_kind-start, restore_kind-more}
+use Rattle.facts.proofs.Prelude.{ℕ, ◌+◌, ◌<◌, arith, List, ◌++◌, map, ◌≡◌, length, get_or, set, take, drop}
+use Rattle.std.proofs.lemmas.List.{get_or_default}
+use Rattle.std.proofs.lemmas.List.Edits.{map_over_more}
+use Rattle.trace.specs.Words.{restore_kind}
 use Rattle.trace.proofs.word_lists.restore_kinds.Goals as goal
 
-pub loop-i-init : goal.loop-i-init
-loop-i-init c = (omega arith, (refl, restore_kind-start c.args.blocks.now))
+one_more : (l to : List ℕ) (i v : ℕ) → i < length l → length to ≡ length l → to ≡ map restore_kind (take i l) ++ drop i l → v ≡ restore_kind (get_or to i 0)
+    → set to i v ≡ map restore_kind (take (i + 1) l) ++ drop (i + 1) l
+one_more l to i v h k e s =
+    let x = get_or to i 0 in
+    rw s (map_over_more restore_kind l to i x h e (get_or_default to i 0 x (omega arith)))
 
-pub loop-i-smaller : goal.loop-i-smaller
-loop-i-smaller c = omega arith
-
-pub loop-i-preserved : goal.loop-i-preserved
-loop-i-preserved c =
-    let l = c.loop-i in
-    let a = c.args in (
-      omega arith,
-      (
-        length-set l.blocks l.i c.restore_kind.result ∙ l.invariant.1.0,
-        restore_kind-more a.blocks.now l.blocks l.i c.restore_kind.result (omega arith) l.invariant.1.1 c.restore_kind.ensures,
-      ),
-    )
-
-pub shape_of-blocks : goal.shape_of-blocks
-shape_of-blocks c = c.loop-i.invariant.1.0
-
-pub returns : goal.returns
-returns c =
-    let l = c.loop-i in
-    let e : l.i ≡ c.args.m = omega arith in
-    rw (← e) l.invariant.1.1
+pub loop-w-preserved : goal.loop-w-preserved
+loop-w-preserved c = let l = c.loop-w in one_more c.args.blocks.now l.blocks l.w-index c.restore_kind.result (omega arith) (omega arith) l.invariant c.restore_kind.ensures

@@ -1,10 +1,7 @@
-use Rattle.facts.proofs.Prelude.{◌-◌, ◌≤◌, ◌≡◌, length}
-use Rattle.trace.specs.way.Pre.{restore_kinds}
+use Rattle.facts.proofs.Prelude.{◌++◌, map, ◌≡◌, take, drop}
+use Rattle.trace.specs.Words.{restore_kind}
 use Rattle.trace.proofs.word_lists.restore_kinds.Given as goal
 
 -- What is restored so far.
-abbrev pub invariant-loop-i : goal.invariant-loop-i
-invariant-loop-i l = (l.i ≤ l.m) × ((length l.blocks ≡ length l.initial.blocks) × (l.blocks ≡ restore_kinds l.initial.blocks l.i))
-
-abbrev pub decreases-loop-i : goal.decreases-loop-i
-decreases-loop-i l = l.m - l.i
+abbrev pub invariant-loop-w : goal.invariant-loop-w
+invariant-loop-w l = l.blocks ≡ map restore_kind (take l.w-index l.initial.blocks) ++ drop l.w-index l.initial.blocks

@@ -1,14 +1,13 @@
-use Rattle.vigbuso.proofs.DirectSteps.{none_before, has-size, book_in, contains-refused, contains-goes}
+use Rattle.std.proofs.Common.{refl, sym}
+use Rattle.vigbuso.proofs.DirectSteps.{book_in, contains-refused, contains-goes}
+use Rattle.vigbuso.proofs.FaultSteps.{numbered}
 use Rattle.vigbuso.proofs.arena_calls.vigbuso_contains.Goals as goal
 
-pub returns-then-meta_fault-ne0 : goal.returns-then-meta_fault-ne0
-returns-then-meta_fault-ne0 c = search contains-refused
-
-pub size-size-requires : goal.size-size-requires
-size-size-requires c = search (has-size, none_before)
-
 pub contains-requires : goal.contains-requires
-contains-requires c = search (book_in, none_before)
+contains-requires c = book_in _ (sym c.in-Ok.ensures.fault) _ c.in-Ok.ensures.value
 
-pub returns : goal.returns
-returns c = search contains-goes
+pub returns-in-Ok : goal.returns-in-Ok
+returns-in-Ok c = rw c.from.ensures (contains-goes _ _ c.in-Ok.ensures.fault _ _ _ _ refl c.in-Ok.ensures.value c.contains.ensures)
+
+pub returns-in-Err : goal.returns-in-Err
+returns-in-Err c = contains-refused _ _ c.in-Err.ensures.fault _ _ (numbered _)

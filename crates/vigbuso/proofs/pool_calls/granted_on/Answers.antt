@@ -3,8 +3,8 @@ use Rattle.vigbuso.proofs.DirectSteps.{has-size}
 use Rattle.vigbuso.proofs.PoolSteps.{admitted-pre, granted-is, granted-no}
 use Rattle.vigbuso.proofs.pool_calls.granted_on.Goals as goal
 
-pub size-size-requires : goal.size-size-requires
-size-size-requires c = search (has-size, admits-book)
+pub get-size-requires : goal.get-size-requires
+get-size-requires c = search (has-size, admits-book)
 
 pub granted-requires : goal.granted-requires
 granted-requires c = search admitted-pre

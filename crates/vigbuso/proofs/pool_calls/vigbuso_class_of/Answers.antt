@@ -1,30 +1,27 @@
-use Rattle.vigbuso.proofs.DirectSteps.{has-size}
-use Rattle.vigbuso.proofs.PoolSteps.{class-unfit, book-valid, book-long, has-frontier, class_unmade, owner-pre, class-none, class-high, class-held}
+use Rattle.vigbuso.proofs.PoolSteps.{class-unfit, book-long, has-frontier, class_unmade, owner-pre, class-none, class-high, class-held}
+use Rattle.vigbuso.proofs.FaultSteps.{numbered}
 use Rattle.vigbuso.proofs.pool_calls.vigbuso_class_of.Goals as goal
 
-pub returns-then-meta_fault-ne0 : goal.returns-then-meta_fault-ne0
-returns-then-meta_fault-ne0 c = search class-unfit
-
-pub size-size-requires : goal.size-size-requires
-size-size-requires c = search (has-size, book-valid)
+pub returns-in-Err : goal.returns-in-Err
+returns-in-Err c = search (class-unfit, numbered, c.in-Err.ensures.fault)
 
 pub head_valid-requires : goal.head_valid-requires
-head_valid-requires c = search book-long
+head_valid-requires c = search (book-long, c.in-Ok.ensures.fault, c.in-Ok.ensures.value)
 
 pub returns-then-not-head_valid : goal.returns-then-not-head_valid
-returns-then-not-head_valid c = search class_unmade
+returns-then-not-head_valid c = search (class_unmade, c.in-Ok.ensures.fault, c.in-Ok.ensures.value)
 
-pub frontier-requires : goal.frontier-requires
-frontier-requires c = search has-frontier
+pub get-requires : goal.get-requires
+get-requires c = search (has-frontier, c.in-Ok.ensures.fault, c.in-Ok.ensures.value)
 
-pub owner_at-owner-requires : goal.owner_at-owner-requires
-owner_at-owner-requires c = search owner-pre
+pub class_at-requires : goal.class_at-requires
+class_at-requires c = search (owner-pre, c.in-Ok.ensures.fault, c.in-Ok.ensures.value)
 
-pub returns-then-owner-eq0 : goal.returns-then-owner-eq0
-returns-then-owner-eq0 c = search class-none
+pub returns-in-Some : goal.returns-in-Some
+returns-in-Some c = search (class-held, c.in-Ok.ensures.fault, c.in-Ok.ensures.value, c.in-Some.ensures)
 
-pub returns-then-owner-gt-CLASS_ROWS : goal.returns-then-owner-gt-CLASS_ROWS
-returns-then-owner-gt-CLASS_ROWS c = search class-high
+pub returns-in_default : goal.returns-in_default
+returns-in_default c = search (class-high, c.in-Ok.ensures.fault, c.in-Ok.ensures.value, c.in-Some.ensures)
 
-pub returns : goal.returns
-returns c = search class-held
+pub returns-in_default-2 : goal.returns-in_default-2
+returns-in_default-2 c = search (class-none, c.in-Ok.ensures.fault, c.in-Ok.ensures.value, c.in_default.ensures)

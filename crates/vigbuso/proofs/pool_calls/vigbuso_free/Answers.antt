@@ -1,16 +1,5 @@
-use Rattle.vigbuso.proofs.FaultSteps.{class-book}
-use Rattle.vigbuso.proofs.DirectSteps.{has-size}
-use Rattle.vigbuso.proofs.PoolSteps.{pool-pre, free-unfit, free-goes}
+use Rattle.vigbuso.proofs.PoolSteps.{freed}
 use Rattle.vigbuso.proofs.pool_calls.vigbuso_free.Goals as goal
 
-pub returns-then-fault-ne0 : goal.returns-then-fault-ne0
-returns-then-fault-ne0 c = search free-unfit
-
-pub size-size-requires : goal.size-size-requires
-size-size-requires c = search (has-size, class-book)
-
-pub free-requires : goal.free-requires
-free-requires c = search pool-pre
-
 pub returns : goal.returns
-returns c = search free-goes
+returns c = search freed

@@ -1,16 +1,5 @@
-use Rattle.vigbuso.proofs.FaultSteps.{class-book}
-use Rattle.vigbuso.proofs.DirectSteps.{has-size}
-use Rattle.vigbuso.proofs.PoolSteps.{pool-pre, trim-unfit, trim-goes}
+use Rattle.vigbuso.proofs.PoolSteps.{answered}
 use Rattle.vigbuso.proofs.pool_calls.vigbuso_trim.Goals as goal
 
-pub returns-then-fault-ne0 : goal.returns-then-fault-ne0
-returns-then-fault-ne0 c = search trim-unfit
-
-pub size-size-requires : goal.size-size-requires
-size-size-requires c = search (has-size, class-book)
-
-pub trim-requires : goal.trim-requires
-trim-requires c = search pool-pre
-
 pub returns : goal.returns
-returns c = search trim-goes
+returns c = search answered

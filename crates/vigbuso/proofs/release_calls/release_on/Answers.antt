@@ -1,19 +1,17 @@
-use Rattle.vigbuso.proofs.FaultSteps.{class-book, id_fits}
-use Rattle.vigbuso.proofs.DirectSteps.{has-size}
-use Rattle.vigbuso.proofs.ReleaseSteps.{release-pre, release-goes, release-unfit}
+use Rattle.std.proofs.lemmas.Result.{err_from_is_err_and}
+use Rattle.words.proofs.Refusals.{positive}
+use Rattle.vigbuso.proofs.ReleaseSteps.{release-id, release-pre, release-goes, release-unfit}
 use Rattle.vigbuso.proofs.release_calls.release_on.Goals as goal
 
-pub returns-then-fault-ne0 : goal.returns-then-fault-ne0
-returns-then-fault-ne0 c = search release-unfit
+pub returns-in_err-size : goal.returns-in_err-size
+returns-in_err-size c =
+    let p = err_from_is_err_and c.from_residual.result c.from_residual.ensures.1 in rw (p.1, p.2) (release-unfit _ _ _ _ _ _ _ c.in_err-size.ensures.fault (positive _))
 
-pub size-size-requires : goal.size-size-requires
-size-size-requires c = search (has-size, class-book)
-
-pub overflow_add-id : goal.overflow_add-id
-overflow_add-id c = search id_fits
+pub overflow_add-low : goal.overflow_add-low
+overflow_add-low c = search (release-id, c.in_ok-size.ensures.fault)
 
 pub release_blocks-requires : goal.release_blocks-requires
-release_blocks-requires c = search release-pre
+release_blocks-requires c = search (release-pre, c.in_ok-size.ensures.fault, c.in_ok-size.ensures.value)
 
 pub returns : goal.returns
-returns c = search release-goes
+returns c = search (release-goes, c.in_ok-size.ensures.fault, c.in_ok-size.ensures.value)

@@ -1,6 +1,0 @@
-use Rattle.fields.specs.Field.{put}
-use Rattle.fields.proofs.class.set_cold.Goals as goal
-
-pub returns : goal.returns
-unfolding put
-returns c = rw c.class_word.ensures

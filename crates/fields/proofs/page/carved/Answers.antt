@@ -1,6 +1,0 @@
-use Rattle.fields.specs.Field.{get}
-use Rattle.fields.proofs.page.carved.Goals as goal
-
-pub returns : goal.returns
-unfolding get
-returns c = rw c.page_word.ensures
