@@ -1,4 +1,4 @@
-//! Finds what says nothing: every `pub` function in crates/*/src, methods and exported ones too, has an `ensures`. Prints
+//! Finds what says nothing: every `pub` and `pub(crate)` function in crates/*/src, methods and exported ones too, has an `ensures`. Prints
 //! each that has none and ends with 1 if there is any. It reads text, not the language.
 use std::path::{Path, PathBuf};
 use std::{env, fs, process};
@@ -43,7 +43,8 @@ fn sources(dir: &Path, into: &mut Vec<PathBuf>) {
 
 /// The name of the public function whose head begins on this line.
 fn public(line: &str) -> Option<String> {
-    let rest = line.trim_start().strip_prefix("pub ")?;
+    let line = line.trim_start();
+    let rest = line.strip_prefix("pub ").or_else(|| line.strip_prefix("pub(crate) "))?;
     let rest = rest.strip_prefix("extern \"C\" ").unwrap_or(rest).strip_prefix("fn ")?;
     Some(rest.chars().take_while(|c| c.is_alphanumeric() || *c == '_').collect())
 }

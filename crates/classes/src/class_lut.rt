@@ -7,7 +7,7 @@ pub fn small_classes() -> [u8; 1025]
     CLASS_LUT
 }
 
-const CLASS_LUT: [u8; 1025] = [
+pub const CLASS_LUT: [u8; 1025] = [
     0, // size 0
     0, 1, // from 17
     2, // from 33

@@ -9,8 +9,10 @@ mod near;
 mod runs;
 mod sizes;
 
+pub use class_lut::small_classes;
 pub use lookup::size_class;
 pub use lookup_tables::LookupTables;
+pub use medium_lut::medium_classes;
 pub use runs::{number_of, pool_id, shape_of};
 pub use sizes::{
     CLASS_COUNT, CLASS_ROWS, MAX_MEDIUM_SIZE, NUM_CLASSES, NUM_MEDIUM, block_bytes,

@@ -3,11 +3,12 @@ ghost use Rattle.std.specs.Prelude.{◌≡◌};
 ghost use Rattle.classes.specs.Lookup.{SmallLut, MediumLut, size_class};
 
 use super::Sized;
-use super::class_lut::small_classes;
-use super::medium_lut::medium_classes;
+use super::class_lut::CLASS_LUT;
+use super::medium_lut::MEDIUM_LUT;
 use super::sizes::{MAX_MEDIUM_SIZE, MAX_SMALL_SIZE};
 
-// Both tables. A read of a constant array builds it anew, so they are made once and lent.
+// Both tables. A read of a constant array builds it anew, so they are made once and lent: in place, from the constants, since what a function returns would be
+// copied by C's `memcpy`, which the archive does without.
 #[derive(Drop)]
 pub struct LookupTables {
     small: [u8; 1025],
@@ -22,8 +23,8 @@ impl LookupTables {
         ensures medium { MediumLut result.medium }
     {
         LookupTables {
-            small: small_classes(),
-            medium: medium_classes(),
+            small: CLASS_LUT,
+            medium: MEDIUM_LUT,
         }
     }
 

@@ -1,3 +1,4 @@
 mod Zeros
 mod Made
 mod Reading
+mod Words

@@ -1,5 +1,5 @@
 // A line as it is read: a number for each of its words. The name has one too, and stands first.
-ghost use Rattle.std.specs.Prelude.{◌≡◌, ◌+◌, ◌<◌, ◌≤◌, min, slice_index};
+ghost use Rattle.std.specs.Prelude.{◌≡◌, ◌+◌, ◌<◌, ◌≤◌, map, min, slice_index};
 ghost use Rattle.replay.specs.way.Line as way;
 
 // A line's numbers, or its answers.
@@ -30,6 +30,13 @@ fn read(value: u64, b: u8) -> u64
     value.wrapping_add(1)
 }
 
+// The place of the number that a byte is of.
+fn place_after(at: usize, b: u8) -> usize
+    ensures { result ≡ way.place_after at b }
+{
+    if b == b' ' { at.wrapping_add(1) } else { at }
+}
+
 pub fn low(value: u64) -> u32
     ensures { result ≡ way.low value }
 {
@@ -37,7 +44,9 @@ pub fn low(value: u64) -> u32
 }
 
 impl Line {
-    pub(crate) fn new() -> Line {
+    pub fn new() -> Line
+        ensures { result ≡ way.blank }
+    {
         Line {
             numbers: [0; 4096],
             count: 0,
@@ -54,17 +63,19 @@ impl Line {
     }
 
     // The low halves of all numbers.
-    pub(crate) fn words(&self) -> [u32; 4096] {
+    pub fn words(&self) -> [u32; 4096]
+        ensures { result ≡ map way.low self.now.numbers }
+    {
         let mut words = [0; 4096];
-        for (word, number) in words.iter_mut().zip(&self.numbers) {
-            *word = low(*number);
+        for (i, number) in self.numbers.iter().enumerate() {
+            words[i] = low(*number);
         }
         words
     }
 
     // A byte more of the number that is read.
     fn put(&mut self, b: u8)
-        ensures { self.new.numbers ≡ way.put_at self.old.numbers self.old.count (way.read_byte (slice_index self.old.numbers self.old.count) b) }
+        ensures { self.new ≡ record { numbers = way.put_byte self.old.numbers self.old.count b; count = self.old.count; equals = self.old.equals } }
     {
         if self.count < 4096 {
             self.numbers[self.count] = read(self.numbers[self.count], b);
@@ -72,10 +83,10 @@ impl Line {
     }
 
     // A byte more that doesn't end the line.
-    pub(crate) fn byte(&mut self, b: u8) {
-        if b == b' ' {
-            self.count = self.count.wrapping_add(1);
-        }
+    pub fn byte(&mut self, b: u8)
+        ensures { self.new ≡ way.with_byte self.old b }
+    {
+        self.count = place_after(self.count, b);
         self.put(b);
         if b == b'=' {
             self.equals = self.count;
@@ -83,7 +94,9 @@ impl Line {
     }
 
     // The line's end. What later places hold stays for the lines that leave them out.
-    pub(crate) fn end(&mut self) {
+    pub fn end(&mut self)
+        ensures { self.new ≡ way.ended self.old }
+    {
         self.count = 0;
         self.equals = 0;
         self.put(b'\n');

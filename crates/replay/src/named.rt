@@ -1,4 +1,6 @@
 // The calls by their names.
+ghost use Rattle.std.specs.Prelude.{◌≡◌};
+ghost use Rattle.replay.specs.way.Named.{call_named};
 
 // A small class's call or a medium one's.
 #[derive(Clone, Copy)]
@@ -23,7 +25,10 @@ pub enum Call {
 
 impl Call {
     // The call of a name's number: its first letter's byte, then in two digits how many letters follow.
-    pub(crate) fn named(name: u64) -> Option<Call> {
+    #[tactic(auto, unfolding(crate::specs::way::Named::call_named))]
+    pub fn named(name: u64) -> Option<Call>
+        ensures { result ≡ call_named name }
+    {
         match name {
             0 | 3_500 => Some(Call::Nothing),
             11_103 => Some(Call::Open),

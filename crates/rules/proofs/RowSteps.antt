@@ -1,8 +1,7 @@
 -- The functions on rule rows: the rows of a list, a test of each row, a test of each class.
 use Rattle.facts.proofs.Prelude.{ℕ, zero, suc, ◌+◌, ◌*◌, ◌≤◌, ◌<◌, ◌/◌, arith, Bool, true, false, not, ◌&&◌, ◌||◌, List, [], ◌∷◌, map, ◌≡◌, refl, ap, ◌∙◌, leb, ltb, eqb, length, zero-add, ◌++◌, every, below, total, by_cases, sym, true≢false, eqb-true}
-use Rattle.std.specs.List.{filter, find, list_all, list_any, range_with_len}
-use Rattle.std.specs.Prelude.{Option, Some, None, MatchOption}
-use Rattle.std.specs.Option.{option_map}
+use Rattle.std.specs.List.{filter, list_all, list_any, range_with_len}
+use Rattle.std.specs.Prelude.{Option, Some, None, MatchOption, is_none}
 use Rattle.std.proofs.lemmas.Bool.Decides.{nat_tests}
 use Rattle.std.specs.Simd.{first_chunks}
 use Rattle.std.proofs.lemmas.List.Folds.{list_any-append}
@@ -10,8 +9,8 @@ use Rattle.words.specs.Host.{digit}
 use Rattle.classes.specs.Shape.{class_count}
 use Rattle.rules.specs.declared.Limits.{Limits}
 use Rattle.rules.specs.declared.row.RuleRow.{RuleRow}
-use Rattle.rules.specs.Rules.{rows_in, rows_for, two_rows, no_row, spans, row_limits, limits_in, plain_limits}
-use Rattle.rules.specs.way.Rows.{row_of}
+use Rattle.rules.specs.Rules.{rows_in, rows_on, rows_for, two_rows, no_row, spans, row_limits, limits_in, plain_limits}
+use Rattle.rules.specs.way.Rows.{row_of, row_for}
 
 rows_cut : (k : ℕ) (ws : List ℕ) → k * 4 ≤ length ws → length ws < k * 4 + 4 → map row_of (first_chunks 4 k ws) ≡ rows_in ws
 unfolding rows_in
@@ -55,17 +54,29 @@ any-class t u (suc n) e =
 more_than : (n : ℕ) → ltb 1 n ≡ not (leb n 1)
 more_than n = grind (arith, nat_tests)
 
-none_of : (n : ℕ) → eqb n 0 ≡ not (leb 1 n)
-none_of n = grind (arith, nat_tests)
+one_at_least : (n : ℕ) → leb 1 (1 + n) ≡ true
+one_at_least n = grind (arith, nat_tests)
+
+none_of : (c : ℕ) (rs : List RuleRow) → is_none (row_for rs c) ≡ not (leb 1 (rows_on rs c))
+none_of c [] = refl
+none_of c (r ∷ rs) =
+    by_cases (spans r c)
+    (λ h. rw (h, one_at_least (rows_on rs c)))
+    (λ h. rw (h, zero-add (rows_on rs c)) (none_of c rs))
 
 pub any-two : (ws : List ℕ) → list_any (λ c. ltb 1 (rows_for ws c)) (range_with_len 0 class_count) ≡ two_rows ws
 unfolding two_rows
 any-two ws = any-class (λ c. ltb 1 (rows_for ws c)) (λ c. leb (rows_for ws c) 1) class_count (λ c. more_than (rows_for ws c))
 
-pub any-none : (ws : List ℕ) (s : Bool) → s ≡ eqb (length ws) 0 → s ≡ false → list_any (λ c. eqb (rows_for ws c) 0) (range_with_len 0 class_count) ≡ no_row ws
-unfolding no_row
+pub two-given : (ws : List ℕ) (s : Bool) → s ≡ eqb (length ws) 0 → s ≡ true → false ≡ two_rows ws
+unfolding two_rows rows_for rows_in
+two-given [] s e h = refl
+two-given (w ∷ ws) s e h = absurd (omega (arith, eqb-true (length (w ∷ ws)) 0 (sym e ∙ h)))
+
+pub any-none : (ws : List ℕ) (s : Bool) → s ≡ eqb (length ws) 0 → s ≡ false → list_any (λ c. is_none (row_for (rows_in ws) c)) (range_with_len 0 class_count) ≡ no_row ws
+unfolding no_row rows_for
 any-none [] s e h = absurd (true≢false (sym e ∙ h))
-any-none (w ∷ ws) s e h = any-class (λ c. eqb (rows_for (w ∷ ws) c) 0) (λ c. leb 1 (rows_for (w ∷ ws) c)) class_count (λ c. none_of (rows_for (w ∷ ws) c))
+any-none (w ∷ ws) s e h = any-class (λ c. is_none (row_for (rows_in (w ∷ ws)) c)) (λ c. leb 1 (rows_for (w ∷ ws) c)) class_count (λ c. none_of c (rows_in (w ∷ ws)))
 
 pub none-given : (ws : List ℕ) (s : Bool) → s ≡ eqb (length ws) 0 → s ≡ true → false ≡ no_row ws
 unfolding no_row
@@ -85,14 +96,14 @@ abbrev limits_by : ℕ → Option RuleRow → Limits
 limits_by c None = plain_limits c
 limits_by c (Some r) = row_limits r
 
-limits-first : (c : ℕ) (rs : List RuleRow) → limits_by c (find (λ r. spans r c) rs) ≡ limits_in rs c
+limits-first : (c : ℕ) (rs : List RuleRow) → limits_by c (row_for rs c) ≡ limits_in rs c
 limits-first c [] = refl
 limits-first c (r ∷ rs) =
     by_cases (spans r c)
     (λ h. rw h)
     (λ h. rw h (limits-first c rs))
 
-pub limits-found : (c : ℕ) (rs : List RuleRow) (o : Option RuleRow) (d l : Limits) → option_map (λ r. r) o ≡ find (λ r. spans r c) rs → d ≡ plain_limits c
-    → MatchOption o (l ≡ d) (λ r. l ≡ row_limits r) → l ≡ limits_in rs c
-limits-found c rs None d l e p m = m ∙ p ∙ ap (limits_by c) e ∙ limits-first c rs
-limits-found c rs (Some r) d l e p m = m ∙ ap (limits_by c) e ∙ limits-first c rs
+pub limits-found : (c : ℕ) (rs : List RuleRow) (o : Option RuleRow) (l : Limits) (D : Type 0) → o ≡ row_for rs c → MatchOption o D (λ r. l ≡ row_limits r) → (D → l ≡ plain_limits c)
+    → l ≡ limits_in rs c
+limits-found c rs None l D e m p = p m ∙ ap (limits_by c) e ∙ limits-first c rs
+limits-found c rs (Some r) l D e m p = m ∙ ap (limits_by c) e ∙ limits-first c rs

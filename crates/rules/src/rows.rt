@@ -2,7 +2,7 @@
 ghost use Rattle.std.specs.Prelude.{◌≡◌, map};
 ghost use Rattle.words.specs.Refusal.{code_of};
 ghost use Rattle.rules.specs.Rules.{plain_limits, rows_in, rows_for, bad_rows, two_rows, no_row, rows_fault, limits_in, rules_of};
-ghost use Rattle.rules.specs.way.Rows.{row_of};
+ghost use Rattle.rules.specs.way.Rows.{row_of, row_for};
 
 use super::Limits;
 use super::row::RuleRow;
@@ -39,13 +39,23 @@ fn rows_for(words: &[u32], c: u32) -> usize
 fn two_rows(words: &[u32]) -> bool
     ensures { result ≡ two_rows words.now }
 {
-    (0..CLASS_COUNT).any(|c| rows_for(words, c) > 1)
+    !words.is_empty() && (0..CLASS_COUNT).any(|c| rows_for(words, c) > 1)
+}
+
+// The first row of class c.
+fn row_for(words: &[u32], c: u32) -> Option<RuleRow>
+    ensures { result ≡ row_for (rows_in words.now) c }
+{
+    whole_rows(words)
+        .iter()
+        .map(|row| RuleRow::from(*row))
+        .find(|row| row.spans(c))
 }
 
 fn no_row(words: &[u32]) -> bool
     ensures { result ≡ no_row words.now }
 {
-    !words.is_empty() && (0..CLASS_COUNT).any(|c| rows_for(words, c) == 0)
+    !words.is_empty() && (0..CLASS_COUNT).any(|c| row_for(words, c).is_none())
 }
 
 pub fn rows_fault(words: &[u32]) -> Result<(), Refusal>
@@ -74,11 +84,7 @@ fn plain_limits(c: u32) -> Limits
 fn named_limits(words: &[u32], c: u32) -> Limits
     ensures { result ≡ limits_in (rows_in words.now) c }
 {
-    whole_rows(words)
-        .iter()
-        .map(|row| RuleRow::from(*row))
-        .find(|row| row.spans(c))
-        .map_or(plain_limits(c), RuleRow::limits)
+    row_for(words, c).map_or_else(|| plain_limits(c), RuleRow::limits)
 }
 
 // The limits of the class with an id.

@@ -82,7 +82,7 @@ fn still_virgin(meta: &[u32], q: u32, v: bool) -> bool
 }
 
 // What the partial list gives, from its head on, as far as the take goes. No `for`: the pages are a chain of codes in the book.
-fn plan_partial(meta: &[u32], n: u32, c: u32, shape: Shape) -> Result<Taken, Refusal>
+pub fn plan_partial(meta: &[u32], n: u32, c: u32, shape: Shape) -> Result<Taken, Refusal>
     requires { TakePre n meta.now c shape }
     ensures { Foretold result (walks_from n meta.now c shape) (fills meta.now c shape) }
 {
@@ -124,7 +124,7 @@ fn park_valid(meta: &[u32], n: u32, c: u32, shape: Shape, park: Park) -> bool
 }
 
 // What the newest page of a store gives, as the partial list's only one.
-fn plan_parked(meta: &[u32], n: u32, c: u32, shape: Shape, park: Park) -> Result<Taken, Refusal>
+pub fn plan_parked(meta: &[u32], n: u32, c: u32, shape: Shape, park: Park) -> Result<Taken, Refusal>
     requires { ParkedPre n meta.now c shape park }
     ensures { Foretold result (park_valid n meta.now c shape park) (fills (unparked meta.now c park) c shape) }
 {

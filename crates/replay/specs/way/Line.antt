@@ -2,7 +2,9 @@
 --     low            the low half of a number
 --     read_byte      a number with a byte more
 --     put_at         where it is put
-use Rattle.std.specs.Prelude.{ℕ, ◌+◌, ◌*◌, ◌%◌, ◌^◌, cond, ◌&&◌, ◌||◌, List, ◌==◌, nat_le, nat_lt, slice_set}
+--     blank, with_byte, ended    a line before its first byte, with a byte more, at its end
+use Rattle.std.specs.Prelude.{ℕ, ◌+◌, ◌*◌, ◌%◌, ◌^◌, cond, ◌&&◌, ◌||◌, List, replicate, ◌==◌, nat_le, nat_lt, slice_index, slice_set}
+use Rattle.replay.specs.declared.line.Line.{Line}
 
 abbrev pub low : ℕ → ℕ
 low v = v % 4294967296
@@ -17,3 +19,22 @@ read_byte v b =
 -- a list with a number put at a place that it has
 abbrev pub put_at : List ℕ → ℕ → ℕ → List ℕ
 put_at l at v = cond (nat_lt at 4096) (slice_set l at v) l
+
+abbrev pub put_byte : List ℕ → ℕ → ℕ → List ℕ
+put_byte l at b = put_at l at (read_byte (slice_index l at) b)
+
+unfoldable pub blank : Line
+blank = record { numbers = replicate 4096 0; count = 0; equals = 0 }
+
+-- a blank starts the next number; `=` (61) marks the place of the number that it is in
+abbrev pub place_after : ℕ → ℕ → ℕ
+place_after at b = cond (b == 32) ((at + 1) % 2 ^ 64) at
+
+unfoldable pub with_byte : Line → ℕ → Line
+with_byte l b =
+    let at = place_after l.count b in
+    record { numbers = put_byte l.numbers at b; count = at; equals = cond (b == 61) at l.equals }
+
+-- its name is blank again; what later places hold stays
+unfoldable pub ended : Line → Line
+ended l = record { numbers = put_byte l.numbers 0 10; count = 0; equals = 0 }

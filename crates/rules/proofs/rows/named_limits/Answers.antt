@@ -1,18 +1,7 @@
 use Rattle.facts.proofs.Prelude.{rules}
-use borrow.Author.Tests.{tests}
-use Rattle.std.proofs.lemmas.Iterator.{YieldsList-from_slice, YieldsList-from_map}
-use Rattle.std.proofs.lemmas.Iterator.Search.{find_from_yields_List}
-use Rattle.rules.specs.Rules.{spans}
-use Rattle.rules.specs.way.Rows.{row_of}
+use Rattle.rules.specs.Rules.{rows_in}
 use Rattle.rules.proofs.RowSteps.{limits-found}
 use Rattle.rules.proofs.rows.named_limits.Goals as goal
 
 pub returns : goal.returns
-returns c =
-    rw (← c.whole_rows.ensures)
-    (limits-found _ _ _ _ _
-    (find_from_yields_List (λ r. spans r c.args.c) _ _ _ c.find.ensures.ran
-    (YieldsList-from_map _ row_of (YieldsList-from_slice c.whole_rows.result.now cc) c.map.ensures.closure (λ x r q k. search rules))
-    (λ x b q k. search (rules, tests)))
-    c.plain_limits.ensures
-    c.map_or.ensures)
+returns c = limits-found c.args.c (rows_in c.args.words.now) _ c.map_or_else.result _ c.row_for.ensures c.map_or_else.ensures (λ d. search rules)
